@@ -1,5 +1,5 @@
 -- A unit start: what goes out before it, the plans behind it, and the streams.
-use Rattle.std.proofs.Common.{◌≡◌, ℕ, zero, suc, ◌+◌, ◌%◌, ◌<◌, ◌≤◌, List, [], ◌∷◌, ◌++◌, length, reverse, Bool, true, false, if◌then◌else◌, ◌==◌, refl, sym, ap, ◌∙◌, subst, arith, append_assoc, Option, None, Some}
+use Rattle.std.proofs.Common.{◌≡◌, ℕ, zero, suc, ◌+◌, ◌%◌, ◌<◌, ◌≤◌, List, [], ◌∷◌, ◌++◌, length, Bool, true, false, if◌then◌else◌, ◌==◌, refl, sym, ap, ◌∙◌, subst, arith, append_assoc, Option, None, Some}
 use Rattle.std.specs.Prelude.{ℤ, All, slice_get, slice_index_or, Result, Ok, Err, OnOk}
 use Rattle.std.proofs.lemmas.List.{append-nil, length-map}
 use Rattle.std.proofs.lemmas.Option.{none-some, same_Some, slice_get_within}
@@ -13,15 +13,16 @@ use Rattle.program_follower.specs.Following.{streams_of_program}
 use Rattle.event_table.specs.Standing.{Standing, IsWithin}
 use Rattle.armed_events.specs.Arming.{standing}
 use Rattle.armed_events.specs.Valuing.{values_by}
-use Rattle.output_laws.specs.Output.{Packing, Move}
 use Rattle.ad_library.specs.Advertisements.{Advertisement}
 use Rattle.outgoing_packets.specs.Numbers.{FrontFails}
 use Rattle.splice_plans.specs.declared.plan.Plan.{Plan}
 use Rattle.splice_plans.specs.declared.stream.SwitchedStream.{SwitchedStream}
 use Rattle.splice_plans.specs.Parts.{IsReached}
 use Rattle.splice_plans.specs.Fronts.{IsNearTime, IsOther, closing_packets, closed_plans, is_left, AllCount, all_running, running_of, all_ran}
-use Rattle.splice_plans.specs.Switching.{Setting, front_at, switched_at, streams_at, high_at}
-use Rattle.splice_plans.specs.Known.{GoesAs, AllGo, behind_at, plans_at, inside_at, moves_at, puts_at}
+use Rattle.splice_plans.specs.Counters.{PidSteps}
+use Rattle.splice_plans.specs.Switching.{Setting, switched_at, streams_at, high_at}
+use Rattle.splice_plans.specs.Known.{GoesAs, AllGo, behind_at, plans_at, inside_at}
+use Rattle.splice_plans.specs.Stepping.{counted_before, front_by}
 use Rattle.plan_laws.specs.Laws.{steps_of, steps_known, Starts, IsReady, closing_before, plans_between, steps_between, running_before, running_in}
 use Rattle.splice_playing.specs.Dues.{NoneDue, NoneDueAt, NoneDueWith}
 use Rattle.splice_playing.specs.Relations.{BeginsIn}
@@ -65,25 +66,25 @@ itself (x ∷ xs) (suc n) s = itself xs n s
 
 -- ---- the streams' counters
 
-counts-by : (t : SwitchedStream) (packed : Packing) (is_in : ℕ → Bool) (M : List Move) (o : Option ℕ) → GoesAs t packed is_in M o → Counts t.counter (steps_of packed M o)
-counts-by t packed is_in M None g = g.0
-counts-by t packed is_in M (Some pid) g = g.counter
+counts-by : (t : SwitchedStream) (is_in : ℕ → Bool) (steps : PidSteps) (o : Option ℕ) → GoesAs t is_in steps o → Counts t.counter (steps_of steps o)
+counts-by t is_in steps None g = g.0
+counts-by t is_in steps (Some pid) g = g.counter
 
-pub all-count : (k : Setting) (past : List (List ℕ)) (streams : List SwitchedStream) (is_in : ℕ → Bool) (M : List Move) → AllGo streams k.packed is_in M (switched_at k past) → AllCount streams (steps_known k past M)
-all-count k past streams is_in M all = λ i s l. counts-by (slice_index_or streams i s) k.packed is_in M (slice_get (switched_at k past) i) (all i s l)
+pub all-count : (k : Setting) (past : List (List ℕ)) (streams : List SwitchedStream) (is_in : ℕ → Bool) (steps : PidSteps) → AllGo streams is_in steps (switched_at k past) → AllCount streams (steps_known k past steps)
+all-count k past streams is_in steps all = λ i s l. counts-by (slice_index_or streams i s) is_in steps (slice_get (switched_at k past) i) (all i s l)
 
-goes-by : (t : SwitchedStream) (packed : Packing) (is_in : ℕ → Bool) (M : List Move) (o : Option ℕ) → Counts t.counter (steps_of packed M o)
-    → ((pid : ℕ) → o ≡ Some pid → t.is_leaving ≡ is_in pid) → (o ≡ None → t.is_leaving ≡ false) → GoesAs t packed is_in M o
-goes-by t packed is_in M None counts some none = (counts, none refl)
-goes-by t packed is_in M (Some pid) counts some none = record { counter = counts; leaving = some pid refl }
+goes-by : (t : SwitchedStream) (is_in : ℕ → Bool) (steps : PidSteps) (o : Option ℕ) → Counts t.counter (steps_of steps o)
+    → ((pid : ℕ) → o ≡ Some pid → t.is_leaving ≡ is_in pid) → (o ≡ None → t.is_leaving ≡ false) → GoesAs t is_in steps o
+goes-by t is_in steps None counts some none = (counts, none refl)
+goes-by t is_in steps (Some pid) counts some none = record { counter = counts; leaving = some pid refl }
 
-leaves-as : (t : SwitchedStream) (packed : Packing) (is_in : ℕ → Bool) (M : List Move) (o : Option ℕ) → GoesAs t packed is_in M o → (pid : ℕ) → o ≡ Some pid → t.is_leaving ≡ is_in pid
-leaves-as t packed is_in M None g pid h = absurd (none-some pid h)
-leaves-as t packed is_in M (Some q) g pid h = g.leaving ∙ ap is_in (same_Some q pid h)
+leaves-as : (t : SwitchedStream) (is_in : ℕ → Bool) (steps : PidSteps) (o : Option ℕ) → GoesAs t is_in steps o → (pid : ℕ) → o ≡ Some pid → t.is_leaving ≡ is_in pid
+leaves-as t is_in steps None g pid h = absurd (none-some pid h)
+leaves-as t is_in steps (Some q) g pid h = g.leaving ∙ ap is_in (same_Some q pid h)
 
-stays-none : (t : SwitchedStream) (packed : Packing) (is_in : ℕ → Bool) (M : List Move) (o : Option ℕ) → GoesAs t packed is_in M o → o ≡ None → t.is_leaving ≡ false
-stays-none t packed is_in M None g h = g.1
-stays-none t packed is_in M (Some q) g h = absurd (none-some q (sym h))
+stays-none : (t : SwitchedStream) (is_in : ℕ → Bool) (steps : PidSteps) (o : Option ℕ) → GoesAs t is_in steps o → o ≡ None → t.is_leaving ≡ false
+stays-none t is_in steps None g h = g.1
+stays-none t is_in steps (Some q) g h = absurd (none-some q (sym h))
 
 -- as many streams as PIDs
 pub as-many : (k : Setting) (past : List (List ℕ)) → length (switched_at k past) ≡ length (streams_at k past)
@@ -109,7 +110,7 @@ module _ (k : Setting) (filed : ℕ → Option Advertisement) (listed : List Str
   pub few-listed : length listed ≤ 8
   few-listed = let few = i.separate.few in let same = ap length i.listed_is ∙ sym (as-many k past) in omega (arith, same, few)
 
-  module _ (within : All (IsWithin (high_at k past)) (standing k.cue_pid (high_at k) past)) (of : Stream) (of_is : of ≡ slice_index_or listed number of) where
+  module _ (within : All (IsWithin (high_at k past)) (standing k.cue_pid (high_at k) past)) (of : Stream) (of_is : of ≡ slice_index_or listed number of) (counted : PidSteps) where
     pub ready : IsReady k filed number of p past i.pid
     ready = record { starts = starts; within = within; of_is = subst (λ ss. of ≡ slice_index_or ss number of) i.listed_is of_is }
 
@@ -117,10 +118,10 @@ module _ (k : Setting) (filed : ℕ → Option Advertisement) (listed : List Str
     es = standing k.cue_pid (high_at k) past
 
     abbrev steps : ℕ → List Step
-    steps = steps_known k past (moves_at k past)
+    steps = steps_known k past counted
 
-    pub front-is : front_at k p past ≡ closing_before k filed number of p past ++ running_before k filed number of p past
-    front-is = front_goes_out k filed number i.pid of p past ready
+    pub front-is : front_by k counted p past ≡ closing_before k filed number of p past counted ++ running_before k filed number of p past counted
+    front-is = front_goes_out k filed number i.pid of p past ready counted
 
     -- nothing is due behind it, whatever library says the same of the events
     pub none-due : NoneDueWith k p past
@@ -137,7 +138,7 @@ module _ (k : Setting) (filed : ℕ → Option Advertisement) (listed : List Str
           subst (λ ss. NoneDue filed ss (high_at k past) es vals) (sym i.listed_is)
           (subst (NoneDue filed (streams_at k past) (high_at k past) es) (sym is) (h filed i.adverts_are))
 
-      pub closing-is : closing_packets filed listed number of (high_at k past) time (steps number) es vals ≡ closing_before k filed number of p past
+      pub closing-is : closing_packets filed listed number of (high_at k past) time (steps number) es vals ≡ closing_before k filed number of p past counted
       closing-is =
           ap (λ ss. closing_packets filed ss number of (high_at k past) time (steps number) es vals) i.listed_is
           ∙ ap (λ t. closing_packets filed (streams_at k past) number of (high_at k past) t (steps number) es vals) (sym i.stamp_is)
@@ -154,14 +155,14 @@ module _ (k : Setting) (filed : ℕ → Option Advertisement) (listed : List Str
       after = high_at k (p ∷ past)
 
       abbrev between : ℕ → List Step
-      between = steps_between k filed number of p past
+      between = steps_between k filed number of p past counted
 
-      pub running-is : all_running filed listed after es between vals 0 listed ≡ running_before k filed number of p past
+      pub running-is : all_running filed listed after es between vals 0 listed ≡ running_before k filed number of p past counted
       running-is =
           ap (λ ss. all_running filed ss after es between vals 0 ss) i.listed_is
           ∙ ap (λ vs. all_running filed (streams_at k past) after es between vs 0 (streams_at k past)) is
 
-      pub running-in-is : (n : ℕ) → running_of filed listed after es between vals 0 listed n ≡ running_in k filed number of p past n
+      pub running-in-is : (n : ℕ) → running_of filed listed after es between vals 0 listed n ≡ running_in k filed number of p past counted n
       running-in-is n =
           ap (λ ss. running_of filed ss after es between vals 0 ss n) i.listed_is
           ∙ ap (λ vs. running_of filed (streams_at k past) after es between vs 0 (streams_at k past) n) is
@@ -174,15 +175,15 @@ module _ (k : Setting) (filed : ℕ → Option Advertisement) (listed : List Str
 
     -- without a greatest time
     module _ (none : high_at k (p ∷ past) ≡ None) where
-      pub front-none : front_at k p past ≡ closing_before k filed number of p past
-      front-none = front-is ∙ ap (λ l. closing_before k filed number of p past ++ l) (nothing_stands k filed number i.pid of p past ready none).0 ∙ append-nil (closing_before k filed number of p past)
+      pub front-none : front_by k counted p past ≡ closing_before k filed number of p past counted
+      front-none = front-is ∙ ap (λ l. closing_before k filed number of p past counted ++ l) ((nothing_stands k filed number i.pid of p past ready none).0 counted).0 ∙ append-nil (closing_before k filed number of p past counted)
 
       pub plans-none : plans_between k filed number of p past ≡ values_by (plans_at k past (p ∷ behind_at k past)) es
-      plans-none = sym (nothing_stands k filed number i.pid of p past ready none).2 ∙ plans_go_on k filed number i.pid of p past ready
+      plans-none = sym (nothing_stands k filed number i.pid of p past ready none).1 ∙ plans_go_on k filed number i.pid of p past ready
 
-      pub counts-none : (streams : List SwitchedStream) → AllCount streams (steps_between k filed number of p past)
-          → AllCount streams (λ j. put_in (running_in k filed number of p past j) (steps_between k filed number of p past j))
-      counts-none streams all = λ j s l. subst (λ qs. Counts (slice_index_or streams j s).counter (put_in qs (steps_between k filed number of p past j))) (sym ((nothing_stands k filed number i.pid of p past ready none).1 j)) (all j s l)
+      pub counts-none : (streams : List SwitchedStream) → AllCount streams (steps_between k filed number of p past counted)
+          → AllCount streams (λ j. put_in (running_in k filed number of p past counted j) (steps_between k filed number of p past counted j))
+      counts-none streams all = λ j s l. subst (λ qs. Counts (slice_index_or streams j s).counter (put_in qs (steps_between k filed number of p past counted j))) (sym (((nothing_stands k filed number i.pid of p past ready none).0 counted).1 j)) (all j s l)
 
     -- the streams once the rest of what the unit closes is out
     module _ (old turned : List SwitchedStream) (others : (j : ℕ) (s : SwitchedStream) → IsOther j (number % 8) → slice_index_or turned j s ≡ slice_index_or old j s) where
@@ -192,27 +193,27 @@ module _ (k : Setting) (filed : ℕ → Option Advertisement) (listed : List Str
       there : (s : SwitchedStream) → (t : SwitchedStream) × (t ≡ slice_index_or turned (number % 8) t) × (slice_index_or turned number s ≡ t)
       there s = (slice_index_or turned (number % 8) s, sym (itself turned (number % 8) s), ap (λ n. slice_index_or turned n s) (let l = low in omega (arith, l)))
 
-      pub counts-between : AllCount old steps → ((t : SwitchedStream) → t ≡ slice_index_or turned (number % 8) t → Counts t.counter (put_in (closing_before k filed number of p past) (steps number)))
-          → AllCount turned (steps_between k filed number of p past)
-      counts-between all counted = λ j s l. by j s l (j == number) refl
+      pub counts-between : AllCount old steps → ((t : SwitchedStream) → t ≡ slice_index_or turned (number % 8) t → Counts t.counter (put_in (closing_before k filed number of p past counted) (steps number)))
+          → AllCount turned (steps_between k filed number of p past counted)
+      counts-between all own = λ j s l. by j s l (j == number) refl
         where
-          by : (j : ℕ) (s : SwitchedStream) → j < 8 → (b : Bool) → (j == number) ≡ b → Counts (slice_index_or turned j s).counter (steps_between k filed number of p past j)
+          by : (j : ℕ) (s : SwitchedStream) → j < 8 → (b : Bool) → (j == number) ≡ b → Counts (slice_index_or turned j s).counter (steps_between k filed number of p past counted j)
           by j s l true h =
               let is : number ≡ j = grind (arith, h) in
               let t = there s in
-              subst (λ m. Counts (slice_index_or turned m s).counter (steps_between k filed number of p past m)) is
-              (subst (λ b. Counts (slice_index_or turned number s).counter (if b then put_in (closing_before k filed number of p past) (steps number) else steps number)) (sym (eq-eqb number number refl))
-              (subst (λ (x : SwitchedStream). Counts x.counter (put_in (closing_before k filed number of p past) (steps number))) (sym t.2) (counted t.0 t.1)))
+              subst (λ m. Counts (slice_index_or turned m s).counter (steps_between k filed number of p past counted m)) is
+              (subst (λ b. Counts (slice_index_or turned number s).counter (if b then put_in (closing_before k filed number of p past counted) (steps number) else steps number)) (sym (eq-eqb number number refl))
+              (subst (λ (x : SwitchedStream). Counts x.counter (put_in (closing_before k filed number of p past counted) (steps number))) (sym t.2) (own t.0 t.1)))
           by j s l false h =
               let differ : number ≡ j → ⊥ = λ is. clash (j == number) (eq-eqb j number (sym is)) h in
-              subst (λ b. Counts (slice_index_or turned j s).counter (if b then put_in (closing_before k filed number of p past) (steps j) else steps j)) (sym h)
+              subst (λ b. Counts (slice_index_or turned j s).counter (if b then put_in (closing_before k filed number of p past counted) (steps j) else steps j)) (sym h)
               (subst (λ (x : SwitchedStream). Counts x.counter (steps j)) (sym (others j s (other-of j differ))) (all j s l))
 
       -- and once all is out
-      module _ (final : List SwitchedStream) (was : AllGo old k.packed (inside_at k past (behind_at k past)) (moves_at k past) (switched_at k past))
+      module _ (final : List SwitchedStream) (was : AllGo old (inside_at k past (behind_at k past)) counted (switched_at k past))
           (left : (t : SwitchedStream) → t ≡ slice_index_or turned (number % 8) t → t.is_leaving ≡ inside_at k past (p ∷ behind_at k past) i.pid)
           (keeps : (j : ℕ) (s : SwitchedStream) → (slice_index_or final j s).is_leaving ≡ (slice_index_or turned j s).is_leaving)
-          (count : AllCount final (λ j. put_in (running_in k filed number of p past j) (steps_between k filed number of p past j))) where
+          (count : AllCount final (λ j. put_in (running_in k filed number of p past counted j) (steps_between k filed number of p past counted j))) where
         leaves : (j : ℕ) (s : SwitchedStream) → j < 8 → (q : ℕ) → slice_get (switched_at k past) j ≡ Some q → (b : Bool) → (number == j) ≡ b → (slice_index_or final j s).is_leaving ≡ inside_at k past (p ∷ behind_at k past) q
         leaves j s l q h true e =
             let is : number ≡ j = grind (arith, e) in
@@ -223,32 +224,32 @@ module _ (k : Setting) (filed : ℕ → Option Advertisement) (listed : List Str
         leaves j s l q h false e =
             let differ : number ≡ j → ⊥ = λ is. clash (number == j) (eq-eqb number j is) e in
             keeps j s ∙ ap (λ (x : SwitchedStream). x.is_leaving) (others j s (other-of j differ))
-            ∙ leaves-as (slice_index_or old j s) k.packed (inside_at k past (behind_at k past)) (moves_at k past) (slice_get (switched_at k past) j) (was j s l) q h
+            ∙ leaves-as (slice_index_or old j s) (inside_at k past (behind_at k past)) counted (slice_get (switched_at k past) j) (was j s l) q h
             ∙ sym (others_lie_as_before k filed number i.pid p past starts j q h (λ is. differ (sym is)))
 
         unused : (j : ℕ) (s : SwitchedStream) → j < 8 → slice_get (switched_at k past) j ≡ None → (slice_index_or final j s).is_leaving ≡ false
         unused j s l h =
             let differ : number ≡ j → ⊥ = λ is. none-some i.pid (sym h ∙ ap (slice_get (switched_at k past)) (sym is) ∙ i.of) in
             keeps j s ∙ ap (λ (x : SwitchedStream). x.is_leaving) (others j s (other-of j differ))
-            ∙ stays-none (slice_index_or old j s) k.packed (inside_at k past (behind_at k past)) (moves_at k past) (slice_get (switched_at k past) j) (was j s l) h
+            ∙ stays-none (slice_index_or old j s) (inside_at k past (behind_at k past)) counted (slice_get (switched_at k past) j) (was j s l) h
 
-        pub all-go : AllGo final k.packed (inside_at k past (p ∷ behind_at k past)) (reverse (puts_at k p past) ++ moves_at k past) (switched_at k past)
+        pub all-go : AllGo final (inside_at k past (p ∷ behind_at k past)) (counted_before k counted p past) (switched_at k past)
         all-go = λ j s l.
-            goes-by (slice_index_or final j s) k.packed (inside_at k past (p ∷ behind_at k past)) (reverse (puts_at k p past) ++ moves_at k past) (slice_get (switched_at k past) j)
-            (subst (Counts (slice_index_or final j s).counter) (counters_go_on k filed number i.pid of p past ready j) (count j s l))
+            goes-by (slice_index_or final j s) (inside_at k past (p ∷ behind_at k past)) (counted_before k counted p past) (slice_get (switched_at k past) j)
+            (subst (Counts (slice_index_or final j s).counter) (counters_go_on k filed number i.pid of p past ready counted j) (count j s l))
             (λ q h. leaves j s l q h (number == j) refl) (unused j s l)
 
     -- the stream in which it begins, before it, and whether its unit is left out
-    module _ (old : List SwitchedStream) (size : number % 8 < length old) (was : AllGo old k.packed (inside_at k past (behind_at k past)) (moves_at k past) (switched_at k past)) (s : SwitchedStream) (s_is : s ≡ slice_index_or old (number % 8) s) where
+    module _ (old : List SwitchedStream) (size : number % 8 < length old) (was : AllGo old (inside_at k past (behind_at k past)) counted (switched_at k past)) (s : SwitchedStream) (s_is : s ≡ slice_index_or old (number % 8) s) where
       at-number : slice_index_or old number s ≡ s
       at-number = slot-old old number s size s s low ∙ sym s_is
 
       pub count-of : Counts s.counter (steps number)
-      count-of = subst (λ (x : SwitchedStream). Counts x.counter (steps number)) at-number (all-count k past old (inside_at k past (behind_at k past)) (moves_at k past) was number s low)
+      count-of = subst (λ (x : SwitchedStream). Counts x.counter (steps number)) at-number (all-count k past old (inside_at k past (behind_at k past)) counted was number s low)
 
       was-in : s.is_leaving ≡ inside_at k past (behind_at k past) i.pid
       was-in = ap (λ (x : SwitchedStream). x.is_leaving) (sym at-number)
-          ∙ leaves-as (slice_index_or old number s) k.packed (inside_at k past (behind_at k past)) (moves_at k past) (slice_get (switched_at k past) number) (was number s low) i.pid i.of
+          ∙ leaves-as (slice_index_or old number s) (inside_at k past (behind_at k past)) counted (slice_get (switched_at k past) number) (was number s low) i.pid i.of
 
       pub left-is : (vals : List Plan) → vals ≡ plans_between k filed number of p past → is_left number (high_at k past) time s.is_leaving es vals ≡ inside_at k past (p ∷ behind_at k past) i.pid
       left-is vals is =

@@ -41,7 +41,7 @@ part-set [] i part h = absurd (true≢false (sym h))
 part-set (x ∷ xs) zero part h = refl
 part-set (x ∷ xs) (suc i) part h = part-set xs i part h
 
-running-is : (stage : Stage) → is_running stage ≡ true → stage ≡ Running
+pub running-is : (stage : Stage) → is_running stage ≡ true → stage ≡ Running
 running-is Waiting h = absurd (true≢false (sym h))
 running-is Running h = refl
 running-is Closing h = absurd (true≢false (sym h))
@@ -66,7 +66,7 @@ module _ (filed : ℕ → Option Advertisement) (streams : List Stream) (high : 
     abbrev ran : List (Standing × Plan) → List Plan
     ran xs = ran_plans filed streams n of high xs
 
-    plans-beside : (es : List Standing) (plans : List Plan) → length es ≡ length plans → map (λ (x : Standing × Plan). x.1) (beside es plans) ≡ plans
+    pub plans-beside : (es : List Standing) (plans : List Plan) → length es ≡ length plans → map (λ (x : Standing × Plan). x.1) (beside es plans) ≡ plans
     plans-beside [] [] h = refl
     plans-beside [] (plan ∷ plans) h = absurd (omega (arith, h))
     plans-beside (e ∷ es) [] h = absurd (omega (arith, h))

@@ -14,15 +14,17 @@ use Rattle.armed_events.specs.Valuing.{values_by}
 use Rattle.ad_library.specs.Advertisements.{Advertisement}
 use Rattle.ts_packet.specs.Fields.{is_among}
 use Rattle.splice_laws.specs.Streams.{IsOnce}
-use Rattle.output_laws.specs.Output.{Move, Packing}
+use Rattle.output_laws.specs.Output.{Packing}
 use Rattle.splice_plans.specs.declared.plan.Plan.{Plan}
 use Rattle.splice_plans.specs.Playing.{Adverts, History, played}
-use Rattle.splice_plans.specs.Switching.{Setting, moves, end_of_run, switched_at, streams_at, high_at, events_at, history_at, is_behind_head, rest_at}
+use Rattle.splice_plans.specs.Counters.{PidSteps, out_behind}
+use Rattle.splice_plans.specs.Switching.{Setting, puts_at_end, switched_at, streams_at, high_at, events_at, history_at, is_behind_head}
 use Rattle.splice_plans.specs.Histories.{IsHistory}
 use Rattle.splice_plans.specs.Adverts.{adverts_of, packed_units}
 use Rattle.splice_plans.specs.Parts.{beside}
 use Rattle.splice_plans.specs.Fronts.{all_running}
-use Rattle.splice_plans.specs.Known.{AreSeparate, plan_at, behind_at, plans_at, moves_at}
+use Rattle.splice_plans.specs.Known.{AreSeparate, plan_at, behind_at, plans_at}
+use Rattle.splice_plans.specs.Stepping.{rest_by}
 use Rattle.splice_plans.proofs.HistoryLemmas.{armed_is_history}
 use Rattle.plan_laws.specs.Laws.{steps_of, steps_known}
 use Rattle.plan_laws.proofs.PartLemmas.{small-number}
@@ -63,7 +65,7 @@ all-distinct (s ∷ ss) once = (
 
 -- ---- of all streams
 
-module _ (filed : ℕ → Option Advertisement) (streams : List Stream) (events : History) (past : List (List ℕ)) (h : IsHistory (high (pids_in streams)) events) (separate : AreSeparate (pids_in streams)) where
+module _ (filed : ℕ → Option Advertisement) (streams : List Stream) (events : History) (past : List (List ℕ)) (h : IsHistory (high (pids_in streams)) events) (separate : AreSeparate (pids_in streams)) (now : PidSteps) where
   abbrev pids : List ℕ
   pids = pids_in streams
 
@@ -73,11 +75,8 @@ module _ (filed : ℕ → Option Advertisement) (streams : List Stream) (events 
   abbrev es : List Standing
   es = standing_at (high pids past) (events past)
 
-  abbrev done_moves : List Move
-  done_moves = moves pids ads events past
-
   abbrev steps : ℕ → List Step
-  steps i = steps_of packed_units done_moves (slice_get pids i)
+  steps i = steps_of now (slice_get pids i)
 
   abbrev xs : List (Standing × Plan)
   xs = beside es (map (plan filed streams events past h) es)
@@ -102,30 +101,30 @@ module _ (filed : ℕ → Option Advertisement) (streams : List Stream) (events 
       let within : i < length streams = omega (arith, below, at) in
       let here : of ≡ slice_index_or streams i of = subst (λ j. of ≡ slice_index_or streams j of) (sym at) (subst (λ ss. of ≡ slice_index_or ss (length done) of) (sym is) (or-done done of rest)) in
       let f = few in (
-        λ past_moves. stream-out filed streams events past h i of.pid (small-number i (omega (arith, within, f))) of (is-of i of within here (got-at done of rest i at is)) past_moves,
+        λ before. stream-out filed streams events past h i of.pid (small-number i (omega (arith, within, f))) of (is-of i of within here (got-at done of rest i at is)) before,
         all-put (done ++ of ∷ []) rest (i + 1) (longer done of i at) (is ∙ sym (append_assoc done (of ∷ []) rest)),
       )
 
   all-behind : (done rest : List Stream) (i : ℕ) → i ≡ length done → streams ≡ done ++ rest
-      → AllBehind filed streams None packed_units steps xs (played ads (events past)) (left filed streams events past h) done_moves i rest
+      → AllBehind filed streams None packed_units steps xs (played ads (events past)) (left filed streams events past h) now i rest
   all-behind done [] i at is = tt
   all-behind done (of ∷ rest) i at is = (
-    ap (steps_of packed_units done_moves) (got-at done of rest i at is),
+    ap (steps_of now) (got-at done of rest i at is),
     all-behind (done ++ of ∷ []) rest (i + 1) (longer done of i at) (is ∙ sym (append_assoc done (of ∷ []) rest)),
   )
 
   -- what runs without a limit is the end of the run
-  pub end-is : all_running filed streams None es steps (values_by (plan_at pids ads events past (events past)) es) 0 streams ≡ end_of_run pids ads events packed_units past
+  pub end-is : all_running filed streams None es steps (values_by (plan_at pids ads events past (events past)) es) 0 streams ≡ out_behind packed_units now (puts_at_end pids ads events past)
   end-is =
       let f = few in
       ap (λ plans. all_running filed streams None es steps plans 0 streams) (plans-are pids ads events past (events past) (h.apart past) (stands (high pids past)))
       ∙ all-each filed streams None es steps (map (plan filed streams events past h) es) 0 streams (omega (arith, f))
-      ∙ each-puts filed streams None packed_units steps xs (played ads (events past)) (left filed streams events past h) done_moves 0 streams
+      ∙ each-puts filed streams None packed_units steps xs (played ads (events past)) (left filed streams events past h) now 0 streams
       (all-put [] streams 0 refl refl) (all-behind [] streams 0 refl refl) (all-distinct streams separate.alone)
 
 -- ---- of a network
 
-module _ (k : Setting) (filed : ℕ → Option Advertisement) (past : List (List ℕ)) (split : AreSeparate (switched_at k past)) (adverts_are : k.adverts ≡ adverts_of filed) (packed_is : k.packed ≡ packed_units) where
+module _ (k : Setting) (filed : ℕ → Option Advertisement) (past : List (List ℕ)) (split : AreSeparate (switched_at k past)) (adverts_are : k.adverts ≡ adverts_of filed) (packed_is : k.packed ≡ packed_units) (counted : PidSteps) where
   abbrev streams : List Stream
   streams = streams_at k past
 
@@ -138,8 +137,8 @@ module _ (k : Setting) (filed : ℕ → Option Advertisement) (past : List (List
   -- where these are the switched PIDs, the advertisements, how a unit is packed, and the events
   abbrev EndsWithThese : List ℕ → Adverts → Packing → List Standing → Type 0
   EndsWithThese sw av packed evs =
-      all_running filed streams None (standing_at (high sw behind) evs) (λ i. steps_of packed (moves sw av hist behind) (slice_get sw i)) (values_by (plan_at sw av hist behind evs) (standing_at (high sw behind) evs)) 0 streams
-      ≡ end_of_run sw av hist packed behind
+      all_running filed streams None (standing_at (high sw behind) evs) (λ i. steps_of counted (slice_get sw i)) (values_by (plan_at sw av hist behind evs) (standing_at (high sw behind) evs)) 0 streams
+      ≡ out_behind packed counted (puts_at_end sw av hist behind)
 
   these : is_behind_head k past ≡ true → EndsWithThese (switched_at k past) (k.adverts streams) k.packed (events_at k past)
   these b =
@@ -147,10 +146,10 @@ module _ (k : Setting) (filed : ℕ → Option Advertisement) (past : List (List
       (subst (λ av. EndsWithThese (pids_in streams) av k.packed (events_at k past)) (sym (ap (λ (f : List Stream → Adverts). f streams) adverts_are))
       (subst (λ packed. EndsWithThese (pids_in streams) (adverts_of filed streams) packed (events_at k past)) (sym packed_is)
       (subst (λ evs. EndsWithThese (pids_in streams) (adverts_of filed streams) packed_units evs) (events-are k [] past)
-      (end-is filed streams hist behind (subst (λ sw. IsHistory (high sw) hist) (pids-are k [] past) (armed_is_history k past b)) (subst AreSeparate (pids-are k [] past) split)))))
+      (end-is filed streams hist behind (subst (λ sw. IsHistory (high sw) hist) (pids-are k [] past) (armed_is_history k past b)) (subst AreSeparate (pids-are k [] past) split) counted))))
 
   abbrev rest_runs : List (List ℕ)
-  rest_runs = all_running filed streams None (standing k.cue_pid (high_at k) past) (steps_known k past (moves_at k past)) (values_by (plans_at k past behind) (standing k.cue_pid (high_at k) past)) 0 streams
+  rest_runs = all_running filed streams None (standing k.cue_pid (high_at k) past) (steps_known k past counted) (values_by (plans_at k past behind) (standing k.cue_pid (high_at k) past)) 0 streams
 
   no-streams : is_behind_head k past ≡ false → streams ≡ []
   no-streams b = by (program_of (Some k.program) past) b
@@ -159,11 +158,11 @@ module _ (k : Setting) (filed : ℕ → Option Advertisement) (past : List (List
       by None h = refl
       by (Some r) h = absurd (true≢false h)
 
-  by-head : (b : Bool) → is_behind_head k past ≡ b → rest_runs ≡ rest_at k past
+  by-head : (b : Bool) → is_behind_head k past ≡ b → rest_runs ≡ rest_by k counted past
   by-head true b = these b ∙ simp b refl
   by-head false b =
-      ap (λ ss. all_running filed streams None (standing k.cue_pid (high_at k) past) (steps_known k past (moves_at k past)) (values_by (plans_at k past behind) (standing k.cue_pid (high_at k) past)) 0 ss) (no-streams b)
+      ap (λ ss. all_running filed streams None (standing k.cue_pid (high_at k) past) (steps_known k past counted) (values_by (plans_at k past behind) (standing k.cue_pid (high_at k) past)) 0 ss) (no-streams b)
       ∙ simp b refl
 
-  pub rest-is-all : rest_runs ≡ rest_at k past
+  pub rest-is-all : rest_runs ≡ rest_by k counted past
   rest-is-all = by-head (is_behind_head k past) refl

@@ -23,7 +23,7 @@ use Rattle.splice_laws.specs.Settled.{begun_now, closed_now}
 use Rattle.splice_laws.specs.Ends.{up_to_end}
 use Rattle.splice_laws.proofs.PidLemmas.{pids_are_streams}
 use Rattle.splice_laws.proofs.HistoryLemmas.{alone}
-use Rattle.output_laws.specs.Output.{Move, counter_steps, out_after}
+use Rattle.splice_plans.specs.Counters.{PidSteps, out_behind}
 use Rattle.splice_plans.specs.declared.plan.Part.{Part}
 use Rattle.splice_plans.specs.declared.plan.Plan.{Plan}
 use Rattle.splice_plans.specs.Playing.{Adverts, History, is_played, played, as_played, end_known, up_to_known, sent_known, left_at_end}
@@ -208,39 +208,39 @@ module _ (filed : ℕ → Option Advertisement) (streams : List Stream) (events 
         ∙ ap (drop (length (sent q e))) (slice-is filed streams events [] past e i q of o)
         ∙ rest-all e.start of.kind (count_of_kind of.kind (take i streams)) e.length (filed e.program) (length (sent q e))
 
-    module _ (done : List Move) where
+    module _ (done : PidSteps) where
       abbrev steps : List Step
-      steps = counter_steps packed_units q done
+      steps = done q
 
       packets-are : (e : Standing) → pair_packets filed streams i of None steps (e, plan e) ≡ slice_packets q (delta_in (ring_of e.start) (filed e.program)) steps (rest e)
       packets-are e =
           ap (λ (x : Part). packets_in filed streams i of (on_ring e) x.sent None steps) (part-is e)
           ∙ ap (λ z. slice_packets z (delta_in (ring_of e.start) (filed e.program)) steps (rest e)) o.pid_is
 
-      one-out : (e : Standing) → Knows e → runs q e ≡ true → pair_packets filed streams i of None steps (e, plan e) ≡ out_after packed_units done (put_on q (left q e))
+      one-out : (e : Standing) → Knows e → runs q e ≡ true → pair_packets filed streams i of None steps (e, plan e) ≡ out_behind packed_units done (put_on q (left q e))
       one-out e knows y =
           packets-are e
           ∙ sym (rest-packets e.start of.kind (count_of_kind of.kind (take i streams)) e.length (filed e.program) (length (sent q e)) None q done)
-          ∙ ap (λ us. out_after packed_units done (put_on q us)) (sym (left-is e knows y))
+          ∙ ap (λ us. out_behind packed_units done (put_on q us)) (sym (left-is e knows y))
 
       abbrev found : List Standing → List (List ℕ)
       found es = running_packets filed streams i of None steps (beside es (map plan es))
 
-      found-out : (es : List Standing) → AllByRecursion Knows es → NoneMeet es → found es ≡ out_after packed_units done (put_on q (flat_map (left q) es))
+      found-out : (es : List Standing) → AllByRecursion Knows es → NoneMeet es → found es ≡ out_behind packed_units done (put_on q (flat_map (left q) es))
       found-out [] known m = refl
       found-out (e ∷ es) known m = by_test (runs q e)
           (λ y.
           ap (found_packets filed streams i of None steps) (pick-first _ _ (runs_in filed streams i of (e, plan e)) (runs-is e ∙ y))
           ∙ one-out e known.0 y
-          ∙ ap (λ us. out_after packed_units done (put_on q us))
+          ∙ ap (λ us. out_behind packed_units done (put_on q us))
           (sym (ap (λ us. left q e ++ us) (none-left i q o.there es (others-idle i q o.there e known.0 y es known.1 m.1)) ∙ append-nil (left q e))))
           (λ y.
           ap (found_packets filed streams i of None steps) (pick-second _ _ (runs_in filed streams i of (e, plan e)) (runs-is e ∙ y))
           ∙ found-out es known.1 m.2
-          ∙ ap (λ us. out_after packed_units done (put_on q us)) (sym (ap (λ us. us ++ flat_map (left q) es) (idle-left i q o.there e y))))
+          ∙ ap (λ us. out_behind packed_units done (put_on q us)) (sym (ap (λ us. us ++ flat_map (left q) es) (idle-left i q o.there e y))))
 
       -- what goes out of the event that runs in the stream is what is left of the played events
-      pub stream-out : running_packets filed streams i of None steps (beside standing_events (map plan standing_events)) ≡ out_after packed_units done (put_on q (flat_map (left q) (played ads (events past))))
+      pub stream-out : running_packets filed streams i of None steps (beside standing_events (map plan standing_events)) ≡ out_behind packed_units done (put_on q (flat_map (left q) (played ads (events past))))
       stream-out =
           found-out standing_events (all-filter (stands (high pids past)) Knows (events past) all-known) (none-filter (stands (high pids past)) (events past) (h.apart past))
-          ∙ ap (λ us. out_after packed_units done (put_on q us)) (sym (lefts-same i q o.there))
+          ∙ ap (λ us. out_behind packed_units done (put_on q us)) (sym (lefts-same i q o.there))

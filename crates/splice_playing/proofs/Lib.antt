@@ -1,12 +1,14 @@
 pub mod WaitingLemmas
 pub mod StayLemmas
 pub mod DuesLemmas
+pub mod CourseLemmas
 pub mod UntilLemmas
 pub mod FrontLemmas
 pub mod ReportLemmas
 pub mod StreamLemmas
 pub mod PlaceLemmas
 pub mod PacketLemmas
+pub mod BesideLemmas
 pub mod BeginLemmas
 pub mod UnaskedLemmas
 pub mod RestLemmas

@@ -1,5 +1,5 @@
 -- What the relation comes to with one packet more.
-use Rattle.std.proofs.Common.{◌≡◌, ℕ, ◌∷◌, ◌++◌, List, true, false, reverse, refl, sym, ap, ◌∙◌, subst, Option, None, Some, replicate}
+use Rattle.std.proofs.Common.{◌≡◌, ℕ, ◌∷◌, List, [], true, false, if◌then◌else◌, refl, sym, ap, ◌∙◌, subst, Option, None, Some, replicate}
 use Rattle.std.specs.Prelude.{ℤ, option_map, is_some, slice_get}
 use Rattle.std.proofs.lemmas.Bool.{true≢false}
 use Rattle.std.proofs.lemmas.Option.{none-some, same_Some}
@@ -25,8 +25,10 @@ use Rattle.splice_plans.specs.Playing.{Adverts}
 use Rattle.splice_plans.specs.Histories.{AreSteady}
 use Rattle.splice_plans.specs.Adverts.{adverts_of}
 use Rattle.splice_plans.specs.Reporting.{ReportIs}
-use Rattle.splice_plans.specs.Switching.{Setting, fate, switched_at, streams_at, high_at, history_at, is_behind_head}
-use Rattle.splice_plans.specs.Known.{nothing_known, AllGo, adverts_at, behind_at, plans_at, inside_at, moves_at, puts_at}
+use Rattle.splice_plans.specs.Counters.{PidSteps}
+use Rattle.splice_plans.specs.Switching.{Setting, switched_at, streams_at, high_at, is_behind_head}
+use Rattle.splice_plans.specs.Known.{nothing_known, AllGo, adverts_at, behind_at, plans_at, inside_at}
+use Rattle.splice_plans.specs.Stepping.{counted_next}
 use Rattle.splice_plans.proofs.AdvertLemmas.{libraries_are_steady}
 use Rattle.known_laws.specs.Laws.{PassesOn}
 use Rattle.splice_playing.specs.declared.playing.Playing.{Playing}
@@ -34,7 +36,7 @@ use Rattle.splice_playing.specs.declared.leaving.LeavingUnit.{LeavingUnit}
 use Rattle.splice_playing.specs.Leaving.{AllTaken}
 use Rattle.splice_playing.proofs.LeavingLemmas.{taken-behind}
 use Rattle.splice_playing.specs.Dues.{NoneDue, NoneDueAt, NoneDueWith}
-use Rattle.splice_playing.specs.Relations.{PlaysFor, PlaysBehind, BeginsIn}
+use Rattle.splice_playing.specs.Relations.{PlaysBy, PlaysBehind, BeginsIn, counted_with}
 use Rattle.known_laws.proofs.HeadLemmas.{same-streams}
 use Rattle.known_laws.proofs.PassLemmas.{packets_pass}
 
@@ -120,23 +122,26 @@ module _ (k : Setting) (filed : ℕ → Option Advertisement) (listed : List Lis
   pub values-pass : (values : List Plan) (es : List Standing) → values ≡ values_by (plans_at k past (p ∷ behind_at k past)) es → values ≡ values_by (plans_at k (p ∷ past) (behind_at k (p ∷ past))) es
   values-pass values es h = h ∙ ap (λ f. values_by f es) (sym passes.plans)
 
-  pub streams-pass : (streams : List SwitchedStream)
-      → AllGo streams k.packed (inside_at k past (p ∷ behind_at k past)) (fate (switched_at k past) (adverts_at k past) (history_at k past) p (behind_at k past) ∷ (reverse (puts_at k p past) ++ moves_at k past)) (switched_at k past)
-      → AllGo streams k.packed (inside_at k (p ∷ past) (behind_at k (p ∷ past))) (moves_at k (p ∷ past)) (switched_at k (p ∷ past))
-  streams-pass streams all =
-      subst (λ f. AllGo streams k.packed f (moves_at k (p ∷ past)) (switched_at k (p ∷ past))) (sym passes.inside)
-      (subst (λ ms. AllGo streams k.packed (inside_at k past (p ∷ behind_at k past)) ms (switched_at k (p ∷ past))) (sym passes.moves)
-      (subst (λ sw. AllGo streams k.packed (inside_at k past (p ∷ behind_at k past)) (fate (switched_at k past) (adverts_at k past) (history_at k past) p (behind_at k past) ∷ (reverse (puts_at k p past) ++ moves_at k past)) sw) (sym passes.switched) all))
+  next-is : (steps : PidSteps) → counted_next k steps p past ≡ counted_with k steps p past
+  next-is steps = ap (λ b. if b then counted_with k steps p past else (λ pid. [])) (behind-by k past number i.pid i.of)
+
+  pub streams-pass : (streams : List SwitchedStream) (steps : PidSteps)
+      → AllGo streams (inside_at k past (p ∷ behind_at k past)) (counted_with k steps p past) (switched_at k past)
+      → AllGo streams (inside_at k (p ∷ past) (behind_at k (p ∷ past))) (counted_next k steps p past) (switched_at k (p ∷ past))
+  streams-pass streams steps all =
+      subst (λ f. AllGo streams f (counted_next k steps p past) (switched_at k (p ∷ past))) (sym passes.inside)
+      (subst (λ (next : PidSteps). AllGo streams (inside_at k past (p ∷ behind_at k past)) next (switched_at k (p ∷ past))) (sym (next-is steps))
+      (subst (λ sw. AllGo streams (inside_at k past (p ∷ behind_at k past)) (counted_with k steps p past) sw) (sym passes.switched) all))
 
   pub taken-pass : (units : List LeavingUnit) (streams : List SwitchedStream) → AllTaken units streams (switched_at k past) (p ∷ behind_at k past) → AllTaken units streams (switched_at k (p ∷ past)) (behind_at k (p ∷ past))
   taken-pass units streams all = taken-behind k units streams p past (behind-by k past number i.pid i.of) all
 
   -- with the same greatest time
-  pub stays-for : (playing : Playing) → high_at k (p ∷ past) ≡ high_at k past → PlaysBehind playing k p past → PlaysFor playing k (p ∷ past)
-  stays-for playing same b = record {
+  pub stays-for : (playing : Playing) → high_at k (p ∷ past) ≡ high_at k past → (steps : PidSteps) → PlaysBehind playing k p past steps → PlaysBy playing k (p ∷ past) (counted_next k steps p past)
+  stays-for playing same steps b = record {
     events = obeys-same same playing.events b.events;
     plans = values-pass (values_of playing.events.obeyed.table) (standing k.cue_pid (high_at k) (p ∷ past)) (b.plans ∙ ap (values_by (plans_at k past (p ∷ behind_at k past))) (sym (standing-same same)));
-    streams = streams-pass playing.streams b.streams;
+    streams = streams-pass playing.streams steps b.streams;
     leaving = taken-pass playing.leaving playing.streams b.leaving;
     forgotten = subst (ReportIs playing.forgotten) (sym (passes.same same)) b.forgotten;
     all_out = λ out. none-due-pass (standing-same same) (b.all_out out);

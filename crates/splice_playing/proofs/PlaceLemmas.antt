@@ -1,8 +1,7 @@
 -- A packet of a switched stream on its way out: what stands in its place, what its counter counts, and that the other streams stay.
-use Rattle.std.proofs.Common.{◌≡◌, ℕ, zero, suc, ◌%◌, ◌<◌, List, [], ◌∷◌, ◌++◌, reverse, length, drop, Bool, true, false, not, ◌&&◌, ◌||◌, ◌==◌, inl, inr, refl, sym, ap, ◌∙◌, subst, arith, if◌then◌else◌, Option, None, Some}
+use Rattle.std.proofs.Common.{◌≡◌, ℕ, zero, suc, ◌%◌, ◌<◌, List, [], ◌∷◌, ◌++◌, length, drop, Bool, true, false, not, ◌&&◌, ◌||◌, ◌==◌, inl, inr, refl, sym, ap, ◌∙◌, subst, arith, if◌then◌else◌, Option, None, Some}
 use Rattle.std.specs.Prelude.{ℤ, is_some, slice_get, slice_index_or, slice_set}
 use Rattle.std.proofs.lemmas.Bool.{true≢false, or_right, eq-eqb, or_parts}
-use Rattle.std.proofs.lemmas.List.{reverse-append}
 use Rattle.std.proofs.lemmas.Option.{none-some, same_Some, slice_get_within}
 use Rattle.ts_packet.specs.Fields.{on, payload, payload_on, pid_of, pcr, renumbered, on_one, is_among}
 use Rattle.ts_packet.specs.Duplicates.{original}
@@ -17,15 +16,17 @@ use Rattle.program_follower.specs.Program.{known_map, behind_head}
 use Rattle.armed_events.specs.Arming.{Heard}
 use Rattle.armed_events.proofs.PastLemmas.{heard-off}
 use Rattle.splice_laws.specs.Streams.{IsOnce}
-use Rattle.output_laws.specs.Output.{Move, Keep, Leave, Put, network, Packing, counter_steps, out_at, clock_alone}
-use Rattle.output_laws.proofs.StepLemmas.{payload-none, kept_on}
+use Rattle.output_laws.specs.Output.{Keep, Leave, Packing, clock_alone}
+use Rattle.output_laws.proofs.StepLemmas.{payload-none, error_is}
 use Rattle.outgoing_packets.specs.Numbers.{FrontFails}
 use Rattle.splice_plans.specs.declared.stream.SwitchedStream.{SwitchedStream}
-use Rattle.splice_plans.specs.Playing.{Adverts, History, played, is_inside, is_played}
+use Rattle.splice_plans.specs.Counters.{PidSteps, counted_at, out_by}
+use Rattle.splice_plans.specs.Playing.{Adverts, is_inside, is_played}
 use Rattle.splice_plans.specs.Counting.{left_steps, steps_behind, left_place}
-use Rattle.splice_plans.specs.Switching.{Setting, puts_by, puts_before, fate, moves, place_at, switched_at, head_at, history_at, events_at}
-use Rattle.splice_plans.specs.Known.{Goes, GoesAs, AllGo, AreSeparate, adverts_at, behind_at, inside_at, moves_at, puts_at}
-use Rattle.splice_plans.proofs.NetworkLemmas.{network-append, none-append, none-put}
+use Rattle.splice_plans.specs.Switching.{Setting, switched_at, head_at, history_at, events_at}
+use Rattle.splice_plans.specs.Known.{Goes, GoesAs, AllGo, AreSeparate, adverts_at, behind_at, inside_at}
+use Rattle.splice_plans.specs.Stepping.{place_by, counted_before}
+use Rattle.splice_playing.specs.Relations.{counted_with}
 use Rattle.splice_playing.proofs.StreamLemmas.{slot-new, slot-old, slot-other}
 
 -- ---- PIDs by their numbers
@@ -63,81 +64,45 @@ on-switched pid [] n p h o = absurd (none-some pid h)
 on-switched pid (q ∷ pids) zero p h o = ap (λ b. b || on_one pids p) (ap (λ r. on r p) (same_Some q pid h) ∙ o)
 on-switched pid (q ∷ pids) (suc n) p h o = or_right (on q p) (on_one pids p) (on-switched pid pids n p h o)
 
--- ---- what the network has brought
-
-abbrev is-none : List (List ℕ) → Bool
-is-none [] = true
-is-none (p ∷ ps) = false
-
-none-back : (a : List Move) → network a ≡ [] → network (reverse a) ≡ []
-none-back [] h = refl
-none-back (Keep p ∷ a) h = absurd (true≢false (sym (ap is-none h)))
-none-back (Leave p ∷ a) h = absurd (true≢false (sym (ap is-none h)))
-none-back (Put q u ∷ a) h = ap network (reverse-append (Put q u ∷ []) a) ∙ none-append (reverse a) (Put q u ∷ []) (none-back a h) refl
-
-module _ (switched : List ℕ) (ads : Adverts) (events : History) where
-  puts-none : (p : List ℕ) (past : List (List ℕ)) → network (puts_before switched ads events p past) ≡ []
-  puts-none p past =
-      let es = played ads (events (p ∷ past)) in
-      none-append (puts_by switched es _) (puts_by switched es _) (none-put switched es _) (none-put switched es _)
-
-  pub before-is : (p : List ℕ) (past : List (List ℕ)) (M : List Move) → network (reverse (puts_before switched ads events p past) ++ M) ≡ network M
-  before-is p past M = network-append (reverse (puts_before switched ads events p past)) M ∙ ap (λ l. l ++ network M) (none-back (puts_before switched ads events p past) (puts-none p past))
-
-  fate-is : (b : Bool) (p : List ℕ) (M : List Move) → network ((if b then Leave p else Keep p) ∷ M) ≡ p ∷ network M
-  fate-is true p M = refl
-  fate-is false p M = refl
-
-  pub moves-are : (past : List (List ℕ)) → network (moves switched ads events past) ≡ past
-  moves-are [] = refl
-  moves-are (p ∷ past) =
-      fate-is (is_left_out (λ pid time. is_inside ads (events (p ∷ past)) time) switched p past switched) p (reverse (puts_before switched ads events p past) ++ moves switched ads events past)
-      ∙ ap (λ l. p ∷ l) (before-is p past (moves switched ads events past) ∙ moves-are past)
-
 -- ---- what the counters count
 
 steps-other : (out : Bool) (q : ℕ) (p : List ℕ) (past : List (List ℕ)) (steps : List Step) → on q p ≡ false → steps_after out q p past steps ≡ steps
 steps-other true q p past steps o = let n = off_payload q p o in simp n refl
 steps-other false q p past steps o = simp o refl
 
-module _ (packed : Packing) (p : List ℕ) (M : List Move) where
-  pub count-other : (b : Bool) (q : ℕ) → on q p ≡ false → counter_steps packed q ((if b then Leave p else Keep p) ∷ M) ≡ counter_steps packed q M
-  count-other true q o = steps-other true q p (network M) (counter_steps packed q M) o
-  count-other false q o = steps-other false q p (network M) (counter_steps packed q M) o
+module _ (packed : Packing) (p : List ℕ) (read : List (List ℕ)) (steps : PidSteps) where
+  pub count-other : (b : Bool) (q : ℕ) → on q p ≡ false → counted_at packed (if b then Leave p else Keep p) read steps q ≡ steps q
+  count-other true q o = steps-other true q p read (steps q) o
+  count-other false q o = steps-other false q p read (steps q) o
 
-  pub count-kept : (pid : ℕ) → on pid p ≡ true → counter_steps packed pid (Keep p ∷ M) ≡ Kept p ∷ counter_steps packed pid M
+  pub count-kept : (pid : ℕ) → on pid p ≡ true → counted_at packed (Keep p) read steps pid ≡ Kept p ∷ steps pid
   count-kept pid o = simp o refl
 
   left-by : (o r : Bool) (steps : List Step) → r ≡ not o → (if o then Dropped p ∷ steps else steps) ≡ left_steps r p steps
   left-by true r steps h = rw h refl
   left-by false r steps h = rw h refl
 
-  count-left : (pid : ℕ) (past : List (List ℕ)) (is_repeat : Bool) → network M ≡ past → is_repeat ≡ not (original pid p past) →
-      counter_steps packed pid (Leave p ∷ M) ≡ left_steps is_repeat p (counter_steps packed pid M)
-  count-left pid past is_repeat net is =
-      ap (λ ps. steps_after true pid p ps (counter_steps packed pid M)) net ∙ left-by (original pid p past) is_repeat (counter_steps packed pid M) is
-
   with-payload : (is_repeat : Bool) (steps : List Step) → is_some (payload p) ≡ true → left_steps is_repeat p steps ≡ steps_behind is_repeat p steps
   with-payload is_repeat steps some = simp some refl
 
-  pub count-gone : (pid : ℕ) (past : List (List ℕ)) (is_repeat : Bool) → payload_on pid p ≡ true → network M ≡ past → is_repeat ≡ not (original pid p past) →
-      counter_steps packed pid (Leave p ∷ M) ≡ steps_behind is_repeat p (counter_steps packed pid M)
-  count-gone pid past is_repeat y net is = count-left pid past is_repeat net is ∙ with-payload is_repeat (counter_steps packed pid M) (payload-some pid p y)
+  pub count-gone : (pid : ℕ) (is_repeat : Bool) → payload_on pid p ≡ true → is_repeat ≡ not (original pid p read) →
+      counted_at packed (Leave p) read steps pid ≡ steps_behind is_repeat p (steps pid)
+  count-gone pid is_repeat y is = left-by (original pid p read) is_repeat (steps pid) is ∙ with-payload is_repeat (steps pid) (payload-some pid p y)
 
   -- what goes out in its place
-  pub place-kept : (pid : ℕ) → on pid p ≡ true → out_at packed (Keep p) M ≡ renumbered (moved (counter_steps packed pid M)) p ∷ []
-  place-kept pid o = ap (λ q. q ∷ []) (kept_on packed pid p M o)
+  pub place-kept : (pid : ℕ) → on pid p ≡ true → out_by packed (Keep p) read steps ≡ renumbered (moved (steps pid)) p ∷ []
+  place-kept pid o = let e = error_is pid p o in simp e (ap (λ n. renumbered (moved (steps n)) p ∷ []) (pid_is pid p o))
 
   gone-by : (is_repeat : Bool) (steps : List Step) → is_some (payload p) ≡ true →
       clock_alone (pid_of p) (number_out p (left_steps is_repeat p steps)) (pcr p) ≡ left_place is_repeat p steps
   gone-by is_repeat steps some = simp some refl
 
-  pub place-gone : (pid : ℕ) (past : List (List ℕ)) (is_repeat : Bool) → payload_on pid p ≡ true → network M ≡ past → is_repeat ≡ not (original pid p past) →
-      out_at packed (Leave p) M ≡ left_place is_repeat p (counter_steps packed pid M)
-  place-gone pid past is_repeat y net is =
-      ap (λ n. clock_alone (pid_of p) (number_out p (counter_steps packed n (Leave p ∷ M))) (pcr p)) (pid_is pid p (payload_on-on pid p y))
-      ∙ ap (λ steps. clock_alone (pid_of p) (number_out p steps) (pcr p)) (count-left pid past is_repeat net is)
-      ∙ gone-by is_repeat (counter_steps packed pid M) (payload-some pid p y)
+  pub place-gone : (pid : ℕ) (is_repeat : Bool) → payload_on pid p ≡ true → is_repeat ≡ not (original pid p read) →
+      out_by packed (Leave p) read steps ≡ left_place is_repeat p (steps pid)
+  place-gone pid is_repeat y is =
+      ap (λ n. clock_alone (pid_of p) (number_out p (steps_after true n p read (steps n))) (pcr p)) (pid_is pid p (payload_on-on pid p y))
+      ∙ ap (λ s. clock_alone (pid_of p) (number_out p s) (pcr p)) (left-by (original pid p read) is_repeat (steps pid) is)
+      ∙ gone-by is_repeat (steps pid) (payload-some pid p y)
 
 -- ---- whether it is left out
 
@@ -213,15 +178,9 @@ module _ (k : Setting) where
     abbrev pub is_gone : Bool
     is_gone = is_left_out (λ pid time. is_inside (adverts_at k past) (history_at k past (p ∷ behind_at k past)) time) (switched_at k past) p (behind_at k past) (switched_at k past)
 
-    abbrev pub before : List Move
-    before = reverse (puts_at k p past) ++ moves_at k past
-
-    pub brought : network before ≡ behind_at k past
-    brought = before-is (switched_at k past) (adverts_at k past) (history_at k past) p (behind_at k past) (moves_at k past)
-        ∙ moves-are (switched_at k past) (adverts_at k past) (history_at k past) (behind_at k past)
-
-    pub place-is : (pid n : ℕ) → on k.cue_pid p ≡ false → slice_get (switched_at k past) n ≡ Some pid → on pid p ≡ true → place_at k p past ≡ out_at k.packed (if is_gone then Leave p else Keep p) before
-    place-is pid n cue of o = let s = on-switched pid (switched_at k past) n p of o in simp (cue, s) refl
+    pub place-is : (steps : PidSteps) (pid n : ℕ) → on k.cue_pid p ≡ false → slice_get (switched_at k past) n ≡ Some pid → on pid p ≡ true
+        → place_by k steps p past ≡ out_by k.packed (if is_gone then Leave p else Keep p) (behind_at k past) (counted_before k steps p past)
+    place-is steps pid n cue of o = let s = on-switched pid (switched_at k past) n p of o in simp (cue, s) refl
 
     pub gone-is : (pid : ℕ) → on k.cue_pid p ≡ false → IsOnce pid (switched_at k past) → payload_on pid p ≡ true → is_gone ≡ inside_at k past (p ∷ behind_at k past) pid
     gone-is pid cue once y =
@@ -242,30 +201,39 @@ module _ (k : Setting) where
 
 -- ---- the streams
 
-goes-other : (s : SwitchedStream) (packed : Packing) (is_in : ℕ → Bool) (m : Move) (M : List Move) (o : Option ℕ) → ((q : ℕ) → o ≡ Some q → counter_steps packed q (m ∷ M) ≡ counter_steps packed q M)
-    → GoesAs s packed is_in M o → GoesAs s packed is_in (m ∷ M) o
-goes-other s packed is_in m M None same g = g
-goes-other s packed is_in m M (Some q) same g = record { counter = subst (Counts s.counter) (sym (same q refl)) g.counter; leaving = g.leaving }
+goes-other : (s : SwitchedStream) (is_in : ℕ → Bool) (next steps : PidSteps) (o : Option ℕ) → ((q : ℕ) → o ≡ Some q → next q ≡ steps q) → GoesAs s is_in steps o → GoesAs s is_in next o
+goes-other s is_in next steps None same g = g
+goes-other s is_in next steps (Some q) same g = record { counter = subst (Counts s.counter) (sym (same q refl)) g.counter; leaving = g.leaving }
 
-module _ (streams : List SwitchedStream) (y : SwitchedStream) (n : ℕ) (below : n % 8 < length streams) (low : n < 8) (packed : Packing) (is_in : ℕ → Bool) (m : Move) (M : List Move) (switched : List ℕ) (pid : ℕ) where
+-- the steps of the switched PIDs alone matter
+pub all-same : (streams : List SwitchedStream) (is_in : ℕ → Bool) (next steps : PidSteps) (switched : List ℕ) → ((n pid : ℕ) → slice_get switched n ≡ Some pid → next pid ≡ steps pid)
+    → AllGo streams is_in steps switched → AllGo streams is_in next switched
+all-same streams is_in next steps switched same all = λ i s l. goes-other (slice_index_or streams i s) is_in next steps (slice_get switched i) (same i) (all i s l)
+
+module _ (streams : List SwitchedStream) (y : SwitchedStream) (n : ℕ) (below : n % 8 < length streams) (low : n < 8) (is_in : ℕ → Bool) (next steps : PidSteps) (switched : List ℕ) (pid : ℕ) where
   -- one stream goes on, and the others stay
-  pub one-goes : slice_get switched n ≡ Some pid → IsOnce pid switched → ((q : ℕ) → (q == pid) ≡ false → counter_steps packed q (m ∷ M) ≡ counter_steps packed q M)
-      → Goes y packed pid (m ∷ M) (is_in pid) → AllGo streams packed is_in M switched → AllGo (slice_set streams (n % 8) y) packed is_in (m ∷ M) switched
+  pub one-goes : slice_get switched n ≡ Some pid → IsOnce pid switched → ((q : ℕ) → (q == pid) ≡ false → next q ≡ steps q)
+      → Goes y (next pid) (is_in pid) → AllGo streams is_in steps switched → AllGo (slice_set streams (n % 8) y) is_in next switched
   one-goes of once same goes all = λ i s l. slot i s l (n == i) refl
     where
-      slot : (i : ℕ) (s : SwitchedStream) → i < 8 → (b : Bool) → (n == i) ≡ b → GoesAs (slice_index_or (slice_set streams (n % 8) y) i s) packed is_in (m ∷ M) (slice_get switched i)
+      slot : (i : ℕ) (s : SwitchedStream) → i < 8 → (b : Bool) → (n == i) ≡ b → GoesAs (slice_index_or (slice_set streams (n % 8) y) i s) is_in next (slice_get switched i)
       slot i s l true h =
           let is : n ≡ i = grind (arith, h) in
-          subst (λ j. GoesAs (slice_index_or (slice_set streams (n % 8) y) j s) packed is_in (m ∷ M) (slice_get switched j)) is
-          (subst (λ o. GoesAs (slice_index_or (slice_set streams (n % 8) y) n s) packed is_in (m ∷ M) o) (sym of)
-          (subst (λ (t : SwitchedStream). Goes t packed pid (m ∷ M) (is_in pid)) (sym (slot-new streams n y below s low)) goes))
+          subst (λ j. GoesAs (slice_index_or (slice_set streams (n % 8) y) j s) is_in next (slice_get switched j)) is
+          (subst (λ o. GoesAs (slice_index_or (slice_set streams (n % 8) y) n s) is_in next o) (sym of)
+          (subst (λ (t : SwitchedStream). Goes t (next pid) (is_in pid)) (sym (slot-new streams n y below s low)) goes))
       slot i s l false h =
           let differ : n ≡ i → ⊥ = λ is. clash (n == i) (eq-eqb n i is) h in
-          subst (λ (t : SwitchedStream). GoesAs t packed is_in (m ∷ M) (slice_get switched i)) (sym (slot-other streams n y below i s low differ))
-          (goes-other (slice_index_or streams i s) packed is_in m M (slice_get switched i) (λ q h. same q (other-pid pid q switched n i once of h differ)) (all i s l))
+          subst (λ (t : SwitchedStream). GoesAs t is_in next (slice_get switched i)) (sym (slot-other streams n y below i s low differ))
+          (goes-other (slice_index_or streams i s) is_in next steps (slice_get switched i) (λ q h. same q (other-pid pid q switched n i once of h differ)) (all i s l))
+
+  pub stream-of : slice_get switched n ≡ Some pid → (r : SwitchedStream) → AllGo streams is_in steps switched → Goes (slice_index_or streams (n % 8) r) (steps pid) (is_in pid)
+  stream-of of r all =
+      subst (λ (t : SwitchedStream). Goes t (steps pid) (is_in pid)) (slot-old streams n r below r r low)
+      (subst (λ x. GoesAs (slice_index_or streams n r) is_in steps x) of (all n r low))
 
 module _ (k : Setting) (number : ℕ) (p : List ℕ) (past : List (List ℕ)) (pid : ℕ) (of : slice_get (switched_at k past) number ≡ Some pid) (separate : AreSeparate (switched_at k past)) (o : on pid p ≡ true)
-    (cue : on k.cue_pid p ≡ false) where
+    (cue : on k.cue_pid p ≡ false) (steps : PidSteps) where
   pub once-of : IsOnce pid (switched_at k past)
   once-of = separate.alone pid (among-by pid (switched_at k past) number of)
 
@@ -273,54 +241,54 @@ module _ (k : Setting) (number : ℕ) (p : List ℕ) (past : List (List ℕ)) (p
   low-of = let within = slice_get_within (switched_at k past) number pid of in let few = separate.few in omega (arith, within, few)
 
   abbrev pub steps-of : List Step
-  steps-of = counter_steps k.packed pid (before k p past)
+  steps-of = counted_before k steps p past pid
 
-  abbrev pub Go : List SwitchedStream → List Move → Type 0
-  Go streams M = AllGo streams k.packed (inside_at k past (p ∷ behind_at k past)) M (switched_at k past)
+  abbrev pub Go : List SwitchedStream → PidSteps → Type 0
+  Go streams counted = AllGo streams (inside_at k past (p ∷ behind_at k past)) counted (switched_at k past)
 
-  pub place-by : (b : Bool) → is_gone k p past ≡ b → place_at k p past ≡ out_at k.packed (if b then Leave p else Keep p) (before k p past)
-  place-by b is = place-is k p past pid number cue of o ∙ ap (λ d. out_at k.packed (if d then Leave p else Keep p) (before k p past)) is
+  pub place-by : (b : Bool) → is_gone k p past ≡ b → place_by k steps p past ≡ out_by k.packed (if b then Leave p else Keep p) (behind_at k past) (counted_before k steps p past)
+  place-by b is = place-is k p past steps pid number cue of o ∙ ap (λ d. out_by k.packed (if d then Leave p else Keep p) (behind_at k past) (counted_before k steps p past)) is
 
-  pub stream-was : (streams : List SwitchedStream) (r : SwitchedStream) → number % 8 < length streams → Go streams (before k p past)
-      → Goes (slice_index_or streams (number % 8) r) k.packed pid (before k p past) (inside_at k past (p ∷ behind_at k past) pid)
+  pub stream-was : (streams : List SwitchedStream) (r : SwitchedStream) → number % 8 < length streams → Go streams (counted_before k steps p past)
+      → Goes (slice_index_or streams (number % 8) r) steps-of (inside_at k past (p ∷ behind_at k past) pid)
   stream-was streams r below all =
-      subst (λ (t : SwitchedStream). Goes t k.packed pid (before k p past) (inside_at k past (p ∷ behind_at k past) pid)) (slot-old streams number r below r r low-of)
-      (subst (λ x. GoesAs (slice_index_or streams number r) k.packed (inside_at k past (p ∷ behind_at k past)) (before k p past) x) of (all number r low-of))
+      let counted = counted_before k steps p past in
+      stream-of streams r number below low-of (inside_at k past (p ∷ behind_at k past)) counted counted (switched_at k past) pid of r all
 
-  pub all-behind : (b : Bool) (steps : List Step) → is_gone k p past ≡ b → counter_steps k.packed pid ((if b then Leave p else Keep p) ∷ before k p past) ≡ steps
-      → (streams : List SwitchedStream) (y : SwitchedStream) → number % 8 < length streams → Counts y.counter steps → y.is_leaving ≡ inside_at k past (p ∷ behind_at k past) pid → Go streams (before k p past)
-      → Go (slice_set streams (number % 8) y) (fate (switched_at k past) (adverts_at k past) (history_at k past) p (behind_at k past) ∷ before k p past)
-  all-behind b steps is count streams y below counts leaving all =
-      one-goes streams y number below low-of k.packed (inside_at k past (p ∷ behind_at k past)) (if is_gone k p past then Leave p else Keep p) (before k p past) (switched_at k past) pid of once-of
-      (λ q differ. count-other k.packed p (before k p past) (is_gone k p past) q (off-other pid q p o differ))
+  pub all-behind : (b : Bool) (more : List Step) → is_gone k p past ≡ b → counted_at k.packed (if b then Leave p else Keep p) (behind_at k past) (counted_before k steps p past) pid ≡ more
+      → (streams : List SwitchedStream) (y : SwitchedStream) → number % 8 < length streams → Counts y.counter more → y.is_leaving ≡ inside_at k past (p ∷ behind_at k past) pid → Go streams (counted_before k steps p past)
+      → Go (slice_set streams (number % 8) y) (counted_with k steps p past)
+  all-behind b more is count streams y below counts leaving all =
+      one-goes streams y number below low-of (inside_at k past (p ∷ behind_at k past)) (counted_with k steps p past) (counted_before k steps p past) (switched_at k past) pid of once-of
+      (λ q differ. count-other k.packed p (behind_at k past) (counted_before k steps p past) (is_gone k p past) q (off-other pid q p o differ))
       (record {
-        counter = subst (Counts y.counter) (sym (ap (λ d. counter_steps k.packed pid ((if d then Leave p else Keep p) ∷ before k p past)) is ∙ count)) counts;
+        counter = subst (Counts y.counter) (sym (ap (λ d. counted_at k.packed (if d then Leave p else Keep p) (behind_at k past) (counted_before k steps p past) pid) is ∙ count)) counts;
         leaving = leaving;
       }) all
 
   -- ---- one that is kept
 
-  pub kept-place : is_gone k p past ≡ false → place_at k p past ≡ renumbered (moved steps-of) p ∷ []
-  kept-place is = place-by false is ∙ place-kept k.packed p (before k p past) pid o
+  pub kept-place : is_gone k p past ≡ false → place_by k steps p past ≡ renumbered (moved steps-of) p ∷ []
+  kept-place is = place-by false is ∙ place-kept k.packed p (behind_at k past) (counted_before k steps p past) pid o
 
-  pub kept-count : counter_steps k.packed pid (Keep p ∷ before k p past) ≡ Kept p ∷ steps-of
-  kept-count = count-kept k.packed p (before k p past) pid o
+  pub kept-count : counted_at k.packed (Keep p) (behind_at k past) (counted_before k steps p past) pid ≡ Kept p ∷ steps-of
+  kept-count = count-kept k.packed p (behind_at k past) (counted_before k steps p past) pid o
 
   -- ---- one that is left out
 
-  pub gone-place : (is_repeat : Bool) → is_gone k p past ≡ true → payload_on pid p ≡ true → is_repeat ≡ not (original pid p (behind_at k past)) → place_at k p past ≡ left_place is_repeat p steps-of
-  gone-place is_repeat is y repeat = place-by true is ∙ place-gone k.packed p (before k p past) pid (behind_at k past) is_repeat y (brought k p past) repeat
+  pub gone-place : (is_repeat : Bool) → is_gone k p past ≡ true → payload_on pid p ≡ true → is_repeat ≡ not (original pid p (behind_at k past)) → place_by k steps p past ≡ left_place is_repeat p steps-of
+  gone-place is_repeat is y repeat = place-by true is ∙ place-gone k.packed p (behind_at k past) (counted_before k steps p past) pid is_repeat y repeat
 
   pub gone-count : (is_repeat : Bool) → payload_on pid p ≡ true → is_repeat ≡ not (original pid p (behind_at k past))
-      → counter_steps k.packed pid (Leave p ∷ before k p past) ≡ steps_behind is_repeat p steps-of
-  gone-count is_repeat y repeat = count-gone k.packed p (before k p past) pid (behind_at k past) is_repeat y (brought k p past) repeat
+      → counted_at k.packed (Leave p) (behind_at k past) (counted_before k steps p past) pid ≡ steps_behind is_repeat p steps-of
+  gone-count is_repeat y repeat = count-gone k.packed p (behind_at k past) (counted_before k steps p past) pid is_repeat y repeat
 
   -- one whose unit is left out, where it is told whether it is a duplicate
   pub record IsLeft (is_repeat : Bool) : Type 0 where
     pub gone : Bool
     pub is : is_gone k p past ≡ gone
-    pub place : place_at k p past ≡ left_place is_repeat p steps-of
-    pub count : counter_steps k.packed pid ((if gone then Leave p else Keep p) ∷ before k p past) ≡ steps_behind is_repeat p steps-of
+    pub place : place_by k steps p past ≡ left_place is_repeat p steps-of
+    pub count : counted_at k.packed (if gone then Leave p else Keep p) (behind_at k past) (counted_before k steps p past) pid ≡ steps_behind is_repeat p steps-of
 
   -- one without payload stays all the same
   pub left : (is_repeat : Bool) → inside_at k past (p ∷ behind_at k past) pid ≡ true → (payload_on pid p ≡ true → is_repeat ≡ not (original pid p (behind_at k past))) → IsLeft is_repeat

@@ -10,8 +10,10 @@ use Rattle.ad_library.specs.Advertisements.{Advertisement}
 use Rattle.splice_plans.specs.declared.plan.Plan.{Plan}
 use Rattle.splice_plans.specs.Parts.{beside, runs_in, ran_plans}
 use Rattle.splice_plans.specs.Fronts.{all_running, all_ran}
-use Rattle.splice_plans.specs.Switching.{Setting, rest_at, high_at}
-use Rattle.splice_plans.specs.Known.{behind_at, plans_at, moves_at}
+use Rattle.splice_plans.specs.Counters.{PidSteps}
+use Rattle.splice_plans.specs.Switching.{Setting, high_at}
+use Rattle.splice_plans.specs.Known.{behind_at, plans_at}
+use Rattle.splice_plans.specs.Stepping.{rest_by}
 use Rattle.plan_laws.specs.Laws.{steps_known}
 use Rattle.splice_playing.specs.Relations.{EndsWith}
 use Rattle.splice_playing.proofs.BeginLemmas.{as-many}
@@ -59,8 +61,8 @@ module _ (k : Setting) (filed : ℕ → Option Advertisement) (listed : List Str
   pub few-at-end : length listed ≤ 8
   few-at-end = let few = e.separate.few in let same = ap length e.listed_is ∙ sym (as-many k past) in omega (arith, same, few)
 
-  pub rest-is : all_running filed listed None (standing k.cue_pid (high_at k) past) (steps_known k past (moves_at k past))
-      (values_by (plans_at k past (behind_at k past)) (standing k.cue_pid (high_at k) past)) 0 listed ≡ rest_at k past
-  rest-is =
-      ap (λ l. all_running filed l None (standing k.cue_pid (high_at k) past) (steps_known k past (moves_at k past)) (values_by (plans_at k past (behind_at k past)) (standing k.cue_pid (high_at k) past)) 0 l) e.listed_is
-      ∙ rest-is-all k filed past e.separate e.adverts_are e.packed_is
+  pub rest-is : (steps : PidSteps) → all_running filed listed None (standing k.cue_pid (high_at k) past) (steps_known k past steps)
+      (values_by (plans_at k past (behind_at k past)) (standing k.cue_pid (high_at k) past)) 0 listed ≡ rest_by k steps past
+  rest-is steps =
+      ap (λ l. all_running filed l None (standing k.cue_pid (high_at k) past) (steps_known k past steps) (values_by (plans_at k past (behind_at k past)) (standing k.cue_pid (high_at k) past)) 0 l) e.listed_is
+      ∙ rest-is-all k filed past e.separate e.adverts_are e.packed_is steps

@@ -5,3 +5,4 @@ pub mod Going
 pub mod Forgetting
 pub mod Leaving
 pub mod Dues
+pub mod Courses

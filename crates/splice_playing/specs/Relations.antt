@@ -1,6 +1,7 @@
 -- What the events and streams of a switch stand for: behind a past, before a packet that begins a unit, and behind it.
-use Rattle.std.specs.Prelude.{◌≡◌, ℕ, List, ◌∷◌, ◌++◌, map, reverse, Bool, true, false, slice_get, Option, None, Some, option_map}
+use Rattle.std.specs.Prelude.{◌≡◌, ℕ, List, ◌∷◌, map, Bool, true, false, slice_get, Option, None, Some, option_map}
 use Rattle.ts_packet.specs.Fields.{on, on_one}
+use Rattle.ts_packet.specs.Numbering.{Step}
 use Rattle.pes_time.specs.Line.{ring_of}
 use Rattle.unit_stream.specs.Times.{begins, stamp}
 use Rattle.unit_stream.specs.Faults.{unit_fault}
@@ -9,24 +10,25 @@ use Rattle.event_table.specs.Tables.{values_of}
 use Rattle.armed_events.specs.Arming.{standing, ignored}
 use Rattle.armed_events.specs.Obeying.{Obeys}
 use Rattle.armed_events.specs.Valuing.{values_by}
-use Rattle.output_laws.specs.Output.{Move}
 use Rattle.ad_library.specs.Advertisements.{Advertisement}
 use Rattle.splice_plans.specs.declared.plan.Plan.{Plan}
 use Rattle.splice_playing.specs.declared.playing.Playing.{Playing}
 use Rattle.splice_playing.specs.Leaving.{AllTaken, OthersTaken}
-use Rattle.splice_plans.specs.Switching.{Setting, fate, switched_at, streams_at, high_at, history_at}
+use Rattle.splice_plans.specs.Counters.{PidSteps, counted_at}
+use Rattle.splice_plans.specs.Switching.{Setting, switched_at, streams_at, high_at, history_at}
 use Rattle.splice_plans.specs.Histories.{AreSteady}
 use Rattle.splice_plans.specs.Reporting.{ReportIs, EventCounts}
 use Rattle.splice_plans.specs.Adverts.{adverts_of, packed_units}
-use Rattle.splice_plans.specs.Known.{is_crossed_known, AllGo, AreSeparate, adverts_at, behind_at, plans_at, inside_at, moves_at, puts_at, counts_known, is_forgotten}
+use Rattle.splice_plans.specs.Known.{is_crossed_known, AllGo, AreSeparate, adverts_at, behind_at, plans_at, inside_at, fate_at, counts_known, is_forgotten}
+use Rattle.splice_plans.specs.Stepping.{counted_before}
 use Rattle.known_laws.specs.Laws.{AreFaultless}
 use Rattle.splice_playing.specs.Dues.{NoneDueAt, NoneDueWith, IsAllOut}
 
--- WHAT IT STANDS FOR, behind a past
-pub record PlaysFor (playing : Playing) (k : Setting) (past : List (List ℕ)) : Type 0 where
+-- WHAT IT STANDS FOR, behind a past, where the counters have counted these steps
+pub record PlaysBy (playing : Playing) (k : Setting) (past : List (List ℕ)) (steps : PidSteps) : Type 0 where
   pub events : Obeys playing.events k.cue_pid (high_at k) past
   pub plans : values_of playing.events.obeyed.table ≡ values_by (plans_at k past (behind_at k past)) (standing k.cue_pid (high_at k) past)
-  pub streams : AllGo playing.streams k.packed (inside_at k past (behind_at k past)) (moves_at k past) (switched_at k past)
+  pub streams : AllGo playing.streams (inside_at k past (behind_at k past)) steps (switched_at k past)
   pub leaving : AllTaken playing.leaving playing.streams (switched_at k past) (behind_at k past)
   pub forgotten : ReportIs playing.forgotten (counts_known k past (is_forgotten (high_at k past)))
   pub all_out : IsAllOut playing.all_out (high_at k past) → NoneDueAt k past
@@ -61,30 +63,34 @@ pub record BeginsIn (k : Setting) (filed : ℕ → Option Advertisement) (listed
   pub adverts_are : k.adverts ≡ adverts_of filed
   pub packed_is : k.packed ≡ packed_units
 
--- the moves behind which a packet goes out, and what becomes of it
-abbrev pub moves_before : Setting → List ℕ → List (List ℕ) → List Move
-moves_before k p past = reverse (puts_at k p past) ++ moves_at k past
-
-abbrev pub fate_at : Setting → List ℕ → List (List ℕ) → Move
-fate_at k p past = fate (switched_at k past) (adverts_at k past) (history_at k past) p (behind_at k past)
+-- the steps once the packet is out, or what stands in its place
+abbrev pub counted_with : Setting → PidSteps → List ℕ → List (List ℕ) → ℕ → List Step
+counted_with k steps p past = counted_at k.packed (fate_at k p past) (behind_at k past) (counted_before k steps p past)
 
 -- what it stands for once all is out that goes out before a packet that begins a unit
-pub record PlaysBefore (playing : Playing) (k : Setting) (p : List ℕ) (past : List (List ℕ)) : Type 0 where
+pub record PlaysBefore (playing : Playing) (k : Setting) (p : List ℕ) (past : List (List ℕ)) (steps : PidSteps) : Type 0 where
   pub events : Obeys playing.events k.cue_pid (high_at k) past
   pub plans : values_of playing.events.obeyed.table ≡ values_by (plans_at k past (p ∷ behind_at k past)) (standing k.cue_pid (high_at k) past)
-  pub streams : AllGo playing.streams k.packed (inside_at k past (p ∷ behind_at k past)) (moves_before k p past) (switched_at k past)
+  pub streams : AllGo playing.streams (inside_at k past (p ∷ behind_at k past)) (counted_before k steps p past) (switched_at k past)
   pub leaving : OthersTaken playing.leaving playing.streams (switched_at k past) p (behind_at k past)
   pub forgotten : ReportIs playing.forgotten (counts_known k past (is_forgotten (high_at k past)))
   pub all_out : IsAllOut playing.all_out (high_at k (p ∷ past)) → NoneDueWith k p past
 
 -- and once the packet is out, or what stands in its place, before the greatest time rises
-pub record PlaysBehind (playing : Playing) (k : Setting) (p : List ℕ) (past : List (List ℕ)) : Type 0 where
+pub record PlaysBehind (playing : Playing) (k : Setting) (p : List ℕ) (past : List (List ℕ)) (steps : PidSteps) : Type 0 where
   pub events : Obeys playing.events k.cue_pid (high_at k) past
   pub plans : values_of playing.events.obeyed.table ≡ values_by (plans_at k past (p ∷ behind_at k past)) (standing k.cue_pid (high_at k) past)
-  pub streams : AllGo playing.streams k.packed (inside_at k past (p ∷ behind_at k past)) (fate_at k p past ∷ moves_before k p past) (switched_at k past)
+  pub streams : AllGo playing.streams (inside_at k past (p ∷ behind_at k past)) (counted_with k steps p past) (switched_at k past)
   pub leaving : AllTaken playing.leaving playing.streams (switched_at k past) (p ∷ behind_at k past)
   pub forgotten : ReportIs playing.forgotten (counts_known k past (is_forgotten (high_at k past)))
   pub all_out : IsAllOut playing.all_out (high_at k (p ∷ past)) → NoneDueWith k p past
+
+-- the packet is on the PID of the switched stream of this number
+pub record IsOnStream (k : Setting) (number : ℕ) (p : List ℕ) (past : List (List ℕ)) : Type 0 where
+  pub pid : ℕ
+  pub of : slice_get (switched_at k past) number ≡ Some pid
+  pub separate : AreSeparate (switched_at k past)
+  pub on_pid : on pid p ≡ true
 
 -- the packet is of the stream of this number, and begins a unit or does not
 pub record IsPacketOf (k : Setting) (number : ℕ) (is_start : Bool) (p : List ℕ) (past : List (List ℕ)) : Type 0 where

@@ -15,7 +15,9 @@ ghost use Rattle.ts_packet.specs.Sinks.{Blamed};
 ghost use Rattle.ts_packet.specs.Transfers.{WentWell};
 ghost use Rattle.outgoing_packets.specs.Numbers.{FrontFails};
 ghost use Rattle.ad_library.specs.Library.{held};
-ghost use Rattle.splice_plans.specs.Switching.{Setting, front_at, place_at, rest_at};
+ghost use Rattle.splice_plans.specs.Counters.{PidSteps};
+ghost use Rattle.splice_plans.specs.Switching.{Setting};
+ghost use Rattle.splice_plans.specs.Stepping.{front_by, place_by, rest_by, counted_next, steps_kept};
 ghost use Rattle.splice_plans.specs.Reporting.{ReportIs, report_of};
 ghost use Rattle.splice_playing.specs.Ready.{is_ready};
 ghost use Rattle.splice_playing.specs.Resting.{is_rest, comes_before, all_wait, all_start_behind, is_idle};
@@ -50,6 +52,8 @@ pub struct Playing {
     /// The greatest time at which all that was due of the events that run went out, where no event has changed since; `None` where that is
     /// not known.
     all_out: Option<Time33>,
+    /// How often a cue came, an event came further in a stream or was crossed, or events were forgotten. The count stops at the greatest u64.
+    turns: u64,
     ghost ready: { is_ready events.assembler ≡ true },
     ghost rested: { is_rest rest events.obeyed.table ≡ true },
     ghost idle: { is_idle may_run events.obeyed.table ≡ true },
@@ -59,12 +63,13 @@ impl Playing {
     ghost use Rattle.splice_playing.specs.Going.{plans_in, HasEvents, IsStreamAt, stream_at, HasCounted, steps_with};
     ghost use Rattle.splice_playing.specs.Going.{closing_in, closed_in, running_in_all, running_in_one, ran_in_all, LeavesNoneDue};
     ghost use Rattle.splice_playing.specs.Going.{KeepsUnit, HoldsUnit};
-    ghost use Rattle.splice_playing.specs.Relations.{PlaysFor, PlaysBefore, PlaysBehind, BeginsIn, unasked};
-    ghost use Rattle.splice_playing.specs.Relations.{IsCueOf, IsPacketOf, EndsWith, Reports, settled_of};
+    ghost use Rattle.splice_playing.specs.Relations.{PlaysBy, PlaysBefore, PlaysBehind, BeginsIn, unasked};
+    ghost use Rattle.splice_playing.specs.Relations.{IsCueOf, IsPacketOf, IsOnStream, EndsWith, Reports, settled_of};
+    ghost use Rattle.splice_playing.specs.Courses.{CountsTurns};
 
     /// No event, and nothing is out.
     pub fn new() -> Playing
-        ensures { (k : Setting) → PlaysFor result k [] }
+        ensures { (k : Setting) (steps : PidSteps) → PlaysBy result k [] steps }
     {
         Playing {
             events: ArmedEvents::new(),
@@ -74,17 +79,20 @@ impl Playing {
             rest: None,
             may_run: true,
             all_out: None,
+            turns: 0,
         }
     }
 
     /// Obeys the cues that a packet of their PID finishes.
     pub fn obey(&mut self, packet: &Packet)
-        ensures { (k : Setting) (past : List (List ℕ)) → IsCueOf k packet.now past → PlaysFor self.old k past →
-            PlaysFor self.new k (packet.now ∷ past) }
+        ensures plays { (k : Setting) (past : List (List ℕ)) (steps : PidSteps) → IsCueOf k packet.now past → PlaysBy self.old k past steps →
+            PlaysBy self.new k (packet.now ∷ past) (counted_next k steps packet.now past) }
+        ensures turns { CountsTurns self.old self.new }
     {
         self.events.feed(packet, Plan::new());
         self.rest = first_rest(self.events.table());
         self.all_out = None; // An earlier end may leave out a unit that was not due, behind which one is.
+        self.turns = self.turns.saturating_add(1); // An event may be armed, end earlier or be cancelled.
     }
 
     /// Forgets that what was due of the events that run is out: it was due by the streams and the library of that call, and others may make
@@ -112,17 +120,20 @@ impl Playing {
     ) -> Result<(), PutFault>
         requires { stream < length streams.now }
         ensures leads { S.leads sink.old sink.new }
-        ensures ok { (start : Option (List ℕ)) (ps : List (List ℕ)) (k : Setting) (p : List ℕ) (past : List (List ℕ)) →
-            S.holds sink.old start ps → PlaysFor (unasked self.old) k past →
+        ensures ok { (start : Option (List ℕ)) (ps : List (List ℕ)) (k : Setting) (p : List ℕ) (past : List (List ℕ)) (steps : PidSteps) →
+            S.holds sink.old start ps → PlaysBy (unasked self.old) k past steps →
             BeginsIn k (held library.now) streams.now stream time.now high.now p past →
-            OnOk result (S.holds sink.new start (ps ++ front_at k p past)) }
-        ensures plays { (k : Setting) (p : List ℕ) (past : List (List ℕ)) →
-            PlaysFor (unasked self.old) k past → BeginsIn k (held library.now) streams.now stream time.now high.now p past →
-            OnOk result (PlaysBefore self.new k p past) }
-        ensures err { (start : Option (List ℕ)) (ps : List (List ℕ)) (k : Setting) (p : List ℕ) (past : List (List ℕ)) →
-            S.holds sink.old start ps → PlaysFor (unasked self.old) k past →
+            OnOk result (S.holds sink.new start (ps ++ front_by k steps p past)) }
+        ensures plays { (k : Setting) (p : List ℕ) (past : List (List ℕ)) (steps : PidSteps) →
+            PlaysBy (unasked self.old) k past steps → BeginsIn k (held library.now) streams.now stream time.now high.now p past →
+            OnOk result (PlaysBefore self.new k p past steps) }
+        ensures turns { (k : Setting) (p : List ℕ) (past : List (List ℕ)) (steps : PidSteps) →
+            PlaysBy (unasked self.old) k past steps → BeginsIn k (held library.now) streams.now stream time.now high.now p past →
+            OnOk result (CountsTurns self.old self.new) }
+        ensures err { (start : Option (List ℕ)) (ps : List (List ℕ)) (k : Setting) (p : List ℕ) (past : List (List ℕ)) (steps : PidSteps) →
+            S.holds sink.old start ps → PlaysBy (unasked self.old) k past steps →
             BeginsIn k (held library.now) streams.now stream time.now high.now p past →
-            IfErr result (λ f. FrontFails (front_at k p past) (λ put q. S.fails sink.new start (ps ++ put) q f)) }
+            IfErr result (λ f. FrontFails (front_by k steps p past) (λ put q. S.fails sink.new start (ps ++ put) q f)) }
         ensures well { OnOk result (WentWell (S.counts sink.old) (S.counts sink.new)) }
         ensures blamed { IfErr result (λ f. Blamed f (S.counts sink.old) (S.counts sink.new) (S.is_full sink.new)) }
     {
@@ -147,17 +158,20 @@ impl Playing {
     ) -> Result<(), PutFault>
         requires { stream < length streams.now }
         ensures leads { S.leads sink.old sink.new }
-        ensures ok { (start : Option (List ℕ)) (ps : List (List ℕ)) (k : Setting) (p : List ℕ) (past : List (List ℕ)) →
-            S.holds sink.old start ps → PlaysFor self.old k past →
+        ensures ok { (start : Option (List ℕ)) (ps : List (List ℕ)) (k : Setting) (p : List ℕ) (past : List (List ℕ)) (steps : PidSteps) →
+            S.holds sink.old start ps → PlaysBy self.old k past steps →
             BeginsIn k (held library.now) streams.now stream time.now high.now p past →
-            OnOk result (S.holds sink.new start (ps ++ front_at k p past)) }
-        ensures plays { (k : Setting) (p : List ℕ) (past : List (List ℕ)) →
-            PlaysFor self.old k past → BeginsIn k (held library.now) streams.now stream time.now high.now p past →
-            OnOk result (PlaysBefore self.new k p past) }
-        ensures err { (start : Option (List ℕ)) (ps : List (List ℕ)) (k : Setting) (p : List ℕ) (past : List (List ℕ)) →
-            S.holds sink.old start ps → PlaysFor self.old k past →
+            OnOk result (S.holds sink.new start (ps ++ front_by k steps p past)) }
+        ensures plays { (k : Setting) (p : List ℕ) (past : List (List ℕ)) (steps : PidSteps) →
+            PlaysBy self.old k past steps → BeginsIn k (held library.now) streams.now stream time.now high.now p past →
+            OnOk result (PlaysBefore self.new k p past steps) }
+        ensures turns { (k : Setting) (p : List ℕ) (past : List (List ℕ)) (steps : PidSteps) →
+            PlaysBy self.old k past steps → BeginsIn k (held library.now) streams.now stream time.now high.now p past →
+            OnOk result (CountsTurns self.old self.new) }
+        ensures err { (start : Option (List ℕ)) (ps : List (List ℕ)) (k : Setting) (p : List ℕ) (past : List (List ℕ)) (steps : PidSteps) →
+            S.holds sink.old start ps → PlaysBy self.old k past steps →
             BeginsIn k (held library.now) streams.now stream time.now high.now p past →
-            IfErr result (λ f. FrontFails (front_at k p past) (λ put q. S.fails sink.new start (ps ++ put) q f)) }
+            IfErr result (λ f. FrontFails (front_by k steps p past) (λ put q. S.fails sink.new start (ps ++ put) q f)) }
         ensures well { OnOk result (WentWell (S.counts sink.old) (S.counts sink.new)) }
         ensures blamed { IfErr result (λ f. Blamed f (S.counts sink.old) (S.counts sink.new) (S.is_full sink.new)) }
     {
@@ -203,6 +217,8 @@ impl Playing {
             of ≡ slice_index_or streams.now stream of → HasEvents self.old latest es → IsNearTime latest time.now →
             OnOk result (plans_in self.new ≡ closed_in self.old (held library.now) streams.now stream of latest time.now es) }
         ensures out { IfSome self.new.all_out (λ _. (self.new.all_out ≡ self.old.all_out) × (self.new.events ≡ self.old.events)) }
+        ensures rises { self.old.turns ≤ self.new.turns }
+        ensures still { self.new.turns ≡ self.old.turns → self.new.turns + 1 < 2 ^ 64 → self.new.events ≡ self.old.events }
         ensures keeps { KeepsEvents self.old.events self.new.events }
         ensures units { self.new.leaving ≡ self.old.leaving }
         ensures forgotten { self.new.forgotten ≡ self.old.forgotten }
@@ -257,6 +273,7 @@ impl Playing {
         ensures others { (i : ℕ) (s : SwitchedStream) → IsOther i (stream % 8) →
             stream_at self.new i s ≡ stream_at self.old i s }
         ensures out { self.new.all_out ≡ self.old.all_out }
+        ensures turns { self.new.turns ≡ self.old.turns }
         ensures events { self.new.events ≡ self.old.events }
         ensures units { self.new.leaving ≡ self.old.leaving }
         ensures forgotten { self.new.forgotten ≡ self.old.forgotten }
@@ -277,6 +294,7 @@ impl Playing {
         ensures others { (i : ℕ) (s : SwitchedStream) → IsOther i (stream % 8) →
             stream_at self.new i s ≡ stream_at self.old i s }
         ensures out { self.new.all_out ≡ self.old.all_out }
+        ensures turns { self.new.turns ≡ self.old.turns }
         ensures events { self.new.events ≡ self.old.events }
         ensures units { self.new.leaving ≡ self.old.leaving }
         ensures forgotten { self.new.forgotten ≡ self.old.forgotten }
@@ -320,6 +338,8 @@ impl Playing {
             of ≡ slice_index_or streams.now stream of → HasEvents self.old latest es → IsNearTime latest time.now →
             OnOk result (plans_in self.new ≡ closed_in self.old (held library.now) streams.now stream of latest time.now es) }
         ensures out { IfSome self.new.all_out (λ _. (self.new.all_out ≡ self.old.all_out) × (self.new.events ≡ self.old.events)) }
+        ensures rises { self.old.turns ≤ self.new.turns }
+        ensures still { self.new.turns ≡ self.old.turns → self.new.turns + 1 < 2 ^ 64 → self.new.events ≡ self.old.events }
         ensures keeps { KeepsEvents self.old.events self.new.events }
         ensures units { self.new.leaving ≡ self.old.leaving }
         ensures forgotten { self.new.forgotten ≡ self.old.forgotten }
@@ -338,6 +358,7 @@ impl Playing {
         let _ticks = time.ticks();
         self.may_run = true;
         self.all_out = None; // An event may begin in the stream.
+        self.turns = self.turns.saturating_add(1); // An event comes further in the stream, or is crossed.
         turn_all(&mut self.events, stream, time, streams, library);
         let mut of = self.streams[stream % 8];
         let mut counter = of.counter;
@@ -406,6 +427,7 @@ impl Playing {
         ensures plans { (latest latest_behind : Option ℤ) (es : List Standing) → HasEvents self.old latest es →
             IsReached latest high.now latest_behind → LeavesNoneDue self.old (held library.now) streams.now latest es →
             OnOk result (plans_in self.new ≡ ran_in_all self.old (held library.now) streams.now latest_behind es) }
+        ensures turns { self.new.turns ≡ self.old.turns }
         ensures keeps { KeepsEvents self.old.events self.new.events }
         ensures units { self.new.leaving ≡ self.old.leaving }
         ensures forgotten { self.new.forgotten ≡ self.old.forgotten }
@@ -455,6 +477,7 @@ impl Playing {
         ensures plans { (latest latest_behind : Option ℤ) (es : List Standing) → HasEvents self.old latest es →
             IsReached latest high.now latest_behind →
             OnOk result (plans_in self.new ≡ ran_in_all self.old (held library.now) streams.now latest_behind es) }
+        ensures turns { self.new.turns ≡ self.old.turns }
         ensures keeps { KeepsEvents self.old.events self.new.events }
         ensures units { self.new.leaving ≡ self.old.leaving }
         ensures forgotten { self.new.forgotten ≡ self.old.forgotten }
@@ -503,6 +526,7 @@ impl Playing {
         ensures plans { (latest latest_behind : Option ℤ) (es : List Standing) → HasEvents self.old latest es →
             IsReached latest high.now latest_behind →
             OnOk result (plans_in self.new ≡ ran_in_all self.old (held library.now) streams.now latest_behind es) }
+        ensures turns { self.new.turns ≡ self.old.turns }
         ensures keeps { KeepsEvents self.old.events self.new.events }
         ensures units { self.new.leaving ≡ self.old.leaving }
         ensures forgotten { self.new.forgotten ≡ self.old.forgotten }
@@ -548,15 +572,15 @@ impl Playing {
         sink: &mut S,
     ) -> Result<(), PutFault>
         ensures leads { S.leads sink.old sink.new }
-        ensures ok { (start : Option (List ℕ)) (ps : List (List ℕ)) (k : Setting) (past : List (List ℕ)) →
-            S.holds sink.old start ps → PlaysFor self.old k past → EndsWith k (held library.now) streams.now past →
-            OnOk result (S.holds sink.new start (ps ++ rest_at k past)) }
-        ensures reports { (k : Setting) (past : List (List ℕ)) → PlaysFor self.old k past →
+        ensures ok { (start : Option (List ℕ)) (ps : List (List ℕ)) (k : Setting) (past : List (List ℕ)) (steps : PidSteps) →
+            S.holds sink.old start ps → PlaysBy self.old k past steps → EndsWith k (held library.now) streams.now past →
+            OnOk result (S.holds sink.new start (ps ++ rest_by k steps past)) }
+        ensures reports { (k : Setting) (past : List (List ℕ)) (steps : PidSteps) → PlaysBy self.old k past steps →
             EndsWith k (held library.now) streams.now past →
             OnOk result (Reports self.new k past) }
-        ensures err { (start : Option (List ℕ)) (ps : List (List ℕ)) (k : Setting) (past : List (List ℕ)) →
-            S.holds sink.old start ps → PlaysFor self.old k past → EndsWith k (held library.now) streams.now past →
-            IfErr result (λ f. FrontFails (rest_at k past) (λ put q. S.fails sink.new start (ps ++ put) q f)) }
+        ensures err { (start : Option (List ℕ)) (ps : List (List ℕ)) (k : Setting) (past : List (List ℕ)) (steps : PidSteps) →
+            S.holds sink.old start ps → PlaysBy self.old k past steps → EndsWith k (held library.now) streams.now past →
+            IfErr result (λ f. FrontFails (rest_by k steps past) (λ put q. S.fails sink.new start (ps ++ put) q f)) }
         ensures well { OnOk result (WentWell (S.counts sink.old) (S.counts sink.new)) }
         ensures blamed { IfErr result (λ f. Blamed f (S.counts sink.old) (S.counts sink.new) (S.is_full sink.new)) }
     {
@@ -578,15 +602,16 @@ impl Playing {
         sink: &mut S,
     ) -> Result<(), PutFault>
         ensures leads { S.leads sink.old sink.new }
-        ensures ok { (start : Option (List ℕ)) (ps : List (List ℕ)) (k : Setting) (past : List (List ℕ)) →
-            S.holds sink.old start ps → PlaysBefore self.old k packet.now past → IsPacketOf k stream is_start packet.now past →
-            OnOk result (S.holds sink.new start (ps ++ place_at k packet.now past)) }
-        ensures plays { (k : Setting) (past : List (List ℕ)) →
-            PlaysBefore self.old k packet.now past → IsPacketOf k stream is_start packet.now past →
-            OnOk result (PlaysBehind self.new k packet.now past) }
-        ensures err { (start : Option (List ℕ)) (ps : List (List ℕ)) (k : Setting) (past : List (List ℕ)) →
-            S.holds sink.old start ps → PlaysBefore self.old k packet.now past → IsPacketOf k stream is_start packet.now past →
-            IfErr result (λ f. FrontFails (place_at k packet.now past) (λ put q. S.fails sink.new start (ps ++ put) q f)) }
+        ensures ok { (start : Option (List ℕ)) (ps : List (List ℕ)) (k : Setting) (past : List (List ℕ)) (steps : PidSteps) →
+            S.holds sink.old start ps → PlaysBefore self.old k packet.now past steps → IsPacketOf k stream is_start packet.now past →
+            OnOk result (S.holds sink.new start (ps ++ place_by k steps packet.now past)) }
+        ensures plays { (k : Setting) (past : List (List ℕ)) (steps : PidSteps) →
+            PlaysBefore self.old k packet.now past steps → IsPacketOf k stream is_start packet.now past →
+            OnOk result (PlaysBehind self.new k packet.now past steps) }
+        ensures turns { CountsTurns self.old self.new }
+        ensures err { (start : Option (List ℕ)) (ps : List (List ℕ)) (k : Setting) (past : List (List ℕ)) (steps : PidSteps) →
+            S.holds sink.old start ps → PlaysBefore self.old k packet.now past steps → IsPacketOf k stream is_start packet.now past →
+            IfErr result (λ f. FrontFails (place_by k steps packet.now past) (λ put q. S.fails sink.new start (ps ++ put) q f)) }
         ensures well { OnOk result (WentWell (S.counts sink.old) (S.counts sink.new)) }
         ensures blamed { IfErr result (λ f. Blamed f (S.counts sink.old) (S.counts sink.new) (S.is_full sink.new)) }
     {
@@ -624,6 +649,9 @@ impl Playing {
         ensures counts { (d : SwitchedStream) (steps : List Step) →
             Counts (slice_index_or self.old.streams stream d).counter steps →
             Counts (slice_index_or self.new.streams stream d).counter (Kept packet.now ∷ steps) }
+        ensures plays { (k : Setting) (past : List (List ℕ)) (steps : PidSteps) → PlaysBy self.old k past steps →
+            IsOnStream k stream packet.now past → PlaysBy self.new k past (steps_kept packet.now steps) }
+        ensures turns { CountsTurns self.old self.new }
         ensures err { (start : Option (List ℕ)) (ps : List (List ℕ)) (d : SwitchedStream) (steps : List Step) →
             S.holds sink.old start ps → Counts (slice_index_or self.old.streams stream d).counter steps →
             IfErr result (λ f. S.fails sink.new start ps (renumbered (moved steps) packet.now) f) }
@@ -653,12 +681,21 @@ impl Playing {
 
     /// What became of the events that are forgotten, and how many cues were ignored.
     pub fn settled(&self) -> SwitchReport
-        ensures { (k : Setting) (past : List (List ℕ)) → PlaysFor self.now k past → ReportIs result (settled_of k past) }
+        ensures { (k : Setting) (past : List (List ℕ)) (steps : PidSteps) → PlaysBy self.now k past steps → ReportIs result (settled_of k past) }
     {
         SwitchReport {
             ignored: self.events.ignored(),
             ..self.forgotten
         }
+    }
+
+    /// How often a cue came, an event came further in a stream or was crossed, or events were forgotten: where it is as it was, and below the
+    /// greatest u64, at which it stops, so are the events that stand, how far each has come, and what became of those that are forgotten.
+    #[inline(always)]
+    pub fn turns(&self) -> u64
+        ensures { result ≡ self.now.turns }
+    {
+        self.turns
     }
 
     /// It is known that all events that stand wait in all streams, or that none stands.
@@ -672,9 +709,10 @@ impl Playing {
 
     /// Takes this as the greatest time behind the packet that was put, and counts the events that are forgotten by it.
     pub fn advance(&mut self, high: &Option<Time33>, streams: &[Stream], library: &AdLibrary)
-        ensures { (k : Setting) (number : ℕ) (time : Option ℕ) (p : List ℕ) (past : List (List ℕ)) →
-            PlaysBehind self.old k p past → BeginsIn k (held library.now) streams.now number time high.now p past →
-            PlaysFor self.new k (p ∷ past) }
+        ensures plays { (k : Setting) (number : ℕ) (time : Option ℕ) (p : List ℕ) (past : List (List ℕ)) (steps : PidSteps) →
+            PlaysBehind self.old k p past steps → BeginsIn k (held library.now) streams.now number time high.now p past →
+            PlaysBy self.new k (p ∷ past) (counted_next k steps p past) }
+        ensures turns { CountsTurns self.old self.new }
     {
         let Some(high) = *high else {
             return;
@@ -705,6 +743,7 @@ impl Playing {
         self.rest = first_rest(self.events.table());
         self.may_run = runs_any(self.events.table());
         self.all_out = None;
+        self.turns = self.turns.saturating_add(1); // An event is forgotten.
     }
 
     /// What became of all events.

@@ -1,6 +1,6 @@
 -- What a packet that begins no unit does to what the events and streams stand for.
 use Rattle.std.proofs.Common.{◌≡◌, ℕ, zero, suc, ◌+◌, ◌-◌, ◌≤◌, List, [], ◌∷◌, ◌++◌, length, Bool, true, false, not, ◌&&◌, if◌then◌else◌, refl, sym, ap, subst, ◌∙◌, arith}
-use Rattle.std.specs.Prelude.{ℤ, Option, None, Some, option_map, is_some, map, replicate, reverse, drop, count_by, slice_get, slice_index_or}
+use Rattle.std.specs.Prelude.{ℤ, Option, None, Some, option_map, is_some, map, replicate, drop, count_by, slice_get, slice_index_or}
 use Rattle.std.specs.List.{AllByRecursion}
 use Rattle.std.proofs.lemmas.Bool.{true≢false, or_parts}
 use Rattle.ts_packet.specs.Fields.{on, on_one}
@@ -20,37 +20,53 @@ use Rattle.armed_events.specs.Arming.{Heard, heard, standing_at, standing}
 use Rattle.armed_events.specs.Obeying.{Obeys, ObeyedFor}
 use Rattle.armed_events.specs.Valuing.{values_by}
 use Rattle.armed_events.proofs.PastLemmas.{heard-off}
-use Rattle.output_laws.specs.Output.{Move, Keep, Leave, Packing, counter_steps}
+use Rattle.output_laws.specs.Output.{Keep, Leave, Packing}
 use Rattle.splice_plans.specs.declared.plan.Part.{Part}
 use Rattle.splice_plans.specs.declared.plan.Plan.{Plan}
 use Rattle.splice_plans.specs.declared.stream.SwitchedStream.{SwitchedStream}
 use Rattle.splice_plans.specs.Waiting.{runs_in_any}
 use Rattle.splice_plans.specs.Turning.{waiting}
 use Rattle.splice_plans.specs.Playing.{Adverts, History, is_played, is_inside}
-use Rattle.splice_plans.specs.Switching.{Setting, moves, fate, switched_at, streams_at, high_at, events_at, history_at}
+use Rattle.splice_plans.specs.Counters.{PidSteps, counted_at, counted_after}
+use Rattle.splice_plans.specs.Switching.{Setting, switched_at, streams_at, high_at, events_at, history_at}
 use Rattle.splice_plans.specs.Reporting.{EventCounts as Reported, ReportIs, is_not_fitted, no_counts}
-use Rattle.splice_plans.specs.Known.{nothing_known, padded, part_known, plan_known, plan_found, plan_at, is_crossed_known, GoesAs, adverts_at, behind_at, plans_at, inside_at, moves_at, puts_at, counts_known, is_forgotten}
+use Rattle.splice_plans.specs.Known.{nothing_known, padded, part_known, plan_known, plan_found, plan_at, is_crossed_known, GoesAs, adverts_at, behind_at, plans_at, inside_at, counts_known, is_forgotten}
+use Rattle.splice_plans.specs.Stepping.{counted_before, counted_next}
 use Rattle.splice_plans.proofs.PutLemmas.{puts_at_unit_starts}
 use Rattle.splice_playing.specs.declared.playing.Playing.{Playing}
 use Rattle.splice_playing.specs.Dues.{NoneDueOf, NoneDue, IsAllOut}
 use Rattle.splice_playing.specs.Resting.{none_run}
 use Rattle.splice_playing.proofs.WaitingLemmas.{none-found}
-use Rattle.splice_playing.specs.Relations.{PlaysFor, PlaysBefore, PlaysBehind}
+use Rattle.splice_playing.specs.Relations.{PlaysBy, PlaysBefore, PlaysBehind, counted_with}
 use Rattle.splice_playing.proofs.LeavingLemmas.{none-taken, others-taken, first-taken, taken-behind}
 use Rattle.splice_playing.proofs.PlaceLemmas.{nothing-holds}
 use Rattle.splice_switch.proofs.QuietLemmas.{any-none, count-same, count-none, values-same, each-at, begins-none, crossed-known-same, plan-at-same, inside-same}
 
 -- ---- one stream
 
-go-on : (s : SwitchedStream) (packed : Packing) (now after : ℕ → Bool) (done more : List Move) (o : Option ℕ) → ((pid : ℕ) → o ≡ Some pid → after pid ≡ now pid)
-    → ((pid : ℕ) → o ≡ Some pid → counter_steps packed pid more ≡ counter_steps packed pid done) → GoesAs s packed now done o → GoesAs s packed after more o
-go-on s packed now after done more None h k g = g
-go-on s packed now after done more (Some pid) h k g =
+go-on : (s : SwitchedStream) (now after : ℕ → Bool) (done more : PidSteps) (o : Option ℕ) → ((pid : ℕ) → o ≡ Some pid → after pid ≡ now pid)
+    → ((pid : ℕ) → o ≡ Some pid → more pid ≡ done pid) → GoesAs s now done o → GoesAs s after more o
+go-on s now after done more None h k g = g
+go-on s now after done more (Some pid) h k g =
     record { counter = subst (λ steps. Counts s.counter steps) (sym (k pid refl)) g.counter; leaving = g.leaving ∙ sym (h pid refl) }
 
-steps-off : (packed : Packing) (pid : ℕ) (p : List ℕ) (ms : List Move) (d : Bool) → on pid p ≡ false → counter_steps packed pid ((if d then Leave p else Keep p) ∷ ms) ≡ counter_steps packed pid ms
-steps-off packed pid p ms true off = let n = off_payload pid p off in simp n refl
-steps-off packed pid p ms false off = simp off refl
+steps-off : (packed : Packing) (pid : ℕ) (p : List ℕ) (read : List (List ℕ)) (steps : PidSteps) (d : Bool) → on pid p ≡ false → counted_at packed (if d then Leave p else Keep p) read steps pid ≡ steps pid
+steps-off packed pid p read steps true off = let n = off_payload pid p off in simp n refl
+steps-off packed pid p read steps false off = simp off refl
+
+-- the steps of the switched PIDs alone matter
+pub plays-same : (playing : Playing) (k : Setting) (past : List (List ℕ)) (steps more : PidSteps) → ((n pid : ℕ) → slice_get (switched_at k past) n ≡ Some pid → more pid ≡ steps pid)
+    → PlaysBy playing k past steps → PlaysBy playing k past more
+plays-same playing k past steps more same h = record {
+  events = h.events;
+  plans = h.plans;
+  streams = λ i s below.
+      go-on (slice_index_or playing.streams i s) (inside_at k past (behind_at k past)) (inside_at k past (behind_at k past)) steps more (slice_get (switched_at k past) i)
+      (λ pid is. refl) (same i) (h.streams i s below);
+  leaving = h.leaving;
+  forgotten = h.forgotten;
+  all_out = h.all_out;
+}
 
 -- none of the PIDs is the packet's
 pub switched-off : (pids : List ℕ) (p : List ℕ) → on_one pids p ≡ false → AllByRecursion (λ pid. on pid p ≡ false) pids
@@ -64,8 +80,8 @@ or-both false b h k = k
 -- ---- before the packet
 
 pub plays-before : (playing : Playing) (k : Setting) (p : List ℕ) (past : List (List ℕ)) → begins_one (switched_at k past) p (behind_at k past) ≡ false → high_at k (p ∷ past) ≡ high_at k past
-    → PlaysFor playing k past → PlaysBefore playing k p past
-plays-before playing k p past none same h =
+    → (steps : PidSteps) → PlaysBy playing k past steps → PlaysBefore playing k p past steps
+plays-before playing k p past none same steps h =
     let sw = switched_at k past in
     let ads = adverts_at k past in
     let behind = behind_at k past in
@@ -74,9 +90,9 @@ plays-before playing k p past none same h =
       plans = h.plans ∙ values-same (plans_at k past behind) (plans_at k past (p ∷ behind)) (standing k.cue_pid (high_at k) past)
           (λ start. sym (plan-at-same sw ads (history_at k past) p behind none (events_at k past) start));
       streams = λ i s below.
-          go-on (slice_index_or playing.streams i s) k.packed (inside_at k past behind) (inside_at k past (p ∷ behind)) (moves_at k past) (reverse (puts_at k p past) ++ moves_at k past) (slice_get sw i)
+          go-on (slice_index_or playing.streams i s) (inside_at k past behind) (inside_at k past (p ∷ behind)) steps (counted_before k steps p past) (slice_get sw i)
           (λ pid is. inside-same sw ads (events_at k past) pid p behind (each-at (λ q. begins q p behind ≡ false) sw i pid is (begins-none sw p behind none)))
-          (λ pid is. ap (λ ms. counter_steps k.packed pid (reverse ms ++ moves_at k past)) (puts_at_unit_starts sw ads (history_at k past) p behind none))
+          (λ pid is. ap (λ ms. counted_after k.packed steps ms pid) (puts_at_unit_starts sw ads (history_at k past) p behind none))
           (h.streams i s below);
       leaving = others-taken playing.leaving playing.streams sw p behind h.leaving;
       forgotten = h.forgotten;
@@ -89,18 +105,18 @@ plays-before playing k p past none same h =
     }
 
 -- a packet of none of the streams passes
-pub plays-passed : (playing : Playing) (k : Setting) (p : List ℕ) (past : List (List ℕ)) → on_one (switched_at k past) p ≡ false → PlaysBefore playing k p past → PlaysBehind playing k p past
-plays-passed playing k p past off h =
+pub plays-passed : (playing : Playing) (k : Setting) (p : List ℕ) (past : List (List ℕ)) → on_one (switched_at k past) p ≡ false → (steps : PidSteps) → PlaysBefore playing k p past steps → PlaysBehind playing k p past steps
+plays-passed playing k p past off steps h =
     let sw = switched_at k past in
     let behind = behind_at k past in
-    let before = reverse (puts_at k p past) ++ moves_at k past in
+    let before = counted_before k steps p past in
     let left = is_left_out (λ pid time. is_inside (adverts_at k past) (history_at k past (p ∷ behind)) time) sw p behind sw in
     record {
       events = h.events;
       plans = h.plans;
       streams = λ i s below.
-          go-on (slice_index_or playing.streams i s) k.packed (inside_at k past (p ∷ behind)) (inside_at k past (p ∷ behind)) before (fate sw (adverts_at k past) (history_at k past) p behind ∷ before) (slice_get sw i)
-          (λ pid is. refl) (λ pid is. steps-off k.packed pid p before left (each-at (λ q. on q p ≡ false) sw i pid is (switched-off sw p off)))
+          go-on (slice_index_or playing.streams i s) (inside_at k past (p ∷ behind)) (inside_at k past (p ∷ behind)) before (counted_with k steps p past) (slice_get sw i)
+          (λ pid is. refl) (λ pid is. steps-off k.packed pid p behind before left (each-at (λ q. on q p ≡ false) sw i pid is (switched-off sw p off)))
           (h.streams i s below);
       leaving = none-taken playing.leaving playing.streams sw p behind off h.leaving;
       forgotten = h.forgotten;
@@ -162,12 +178,8 @@ module _ (k : Setting) (p : List ℕ) (past : List (List ℕ)) (m : ProgramMap) 
       ∙ ap (λ es. is_inside (adverts_at k past) es (unit_time (switched_at k past) pid (behind_at k (p ∷ past)))) events-more
       ∙ ap (λ b. is_inside (adverts_at k past) (events_at k past) (unit_time (switched_at k past) pid b)) behind-more
 
-  moves-more : moves_at k (p ∷ past) ≡ fate (switched_at k past) (adverts_at k past) (history_at k past) p (behind_at k past) ∷ (reverse (puts_at k p past) ++ moves_at k past)
-  moves-more =
-      ap (λ sw. moves sw (adverts_at k (p ∷ past)) (history_at k (p ∷ past)) (behind_at k (p ∷ past))) switched-more
-      ∙ ap (λ ads. moves (switched_at k past) ads (history_at k (p ∷ past)) (behind_at k (p ∷ past))) adverts-more
-      ∙ ap (λ (f : History). moves (switched_at k past) (adverts_at k past) f (behind_at k (p ∷ past))) history-more
-      ∙ ap (moves (switched_at k past) (adverts_at k past) (history_at k past)) behind-more
+  next-more : (steps : PidSteps) → counted_next k steps p past ≡ counted_with k steps p past
+  next-more steps = ap (λ o. if is_some (option_map program_in o) then counted_with k steps p past else (λ pid. [])) known
 
   module _ (none : begins_one (switched_at k past) p (behind_at k past) ≡ false) where
     pub high-more : high_at k (p ∷ past) ≡ high_at k past
@@ -203,8 +215,8 @@ module _ (k : Setting) (p : List ℕ) (past : List (List ℕ)) (m : ProgramMap) 
           (subst (λ (g : Heard). ObeyedFor events.obeyed (high_at k past) g) (sym heard-more) h.obeyed);
     }
 
-    pub plays-behind : (playing : Playing) → PlaysBehind playing k p past → PlaysFor playing k (p ∷ past)
-    plays-behind playing h =
+    pub plays-behind : (playing : Playing) (steps : PidSteps) → PlaysBehind playing k p past steps → PlaysBy playing k (p ∷ past) (counted_next k steps p past)
+    plays-behind playing steps h =
         let behind = behind_at k past in
         record {
           events = obeys-more playing.events h.events;
@@ -212,10 +224,9 @@ module _ (k : Setting) (p : List ℕ) (past : List (List ℕ)) (m : ProgramMap) 
               ∙ values-same (plans_at k past (p ∷ behind)) (plans_at k (p ∷ past) (behind_at k (p ∷ past))) (standing k.cue_pid (high_at k) past) (λ start. sym (plans-more start))
               ∙ ap (values_by (plans_at k (p ∷ past) (behind_at k (p ∷ past)))) (sym standing-more);
           streams = λ i s below.
-              subst (λ sw. GoesAs (slice_index_or playing.streams i s) k.packed (inside_at k (p ∷ past) (behind_at k (p ∷ past))) (moves_at k (p ∷ past)) (slice_get sw i)) (sym switched-more)
-              (go-on (slice_index_or playing.streams i s) k.packed (inside_at k past (p ∷ behind)) (inside_at k (p ∷ past) (behind_at k (p ∷ past)))
-              (fate (switched_at k past) (adverts_at k past) (history_at k past) p behind ∷ (reverse (puts_at k p past) ++ moves_at k past)) (moves_at k (p ∷ past)) (slice_get (switched_at k past) i)
-              (λ pid is. inside-more pid) (λ pid is. ap (counter_steps k.packed pid) moves-more) (h.streams i s below));
+              subst (λ sw. GoesAs (slice_index_or playing.streams i s) (inside_at k (p ∷ past) (behind_at k (p ∷ past))) (counted_next k steps p past) (slice_get sw i)) (sym switched-more)
+              (go-on (slice_index_or playing.streams i s) (inside_at k past (p ∷ behind)) (inside_at k (p ∷ past) (behind_at k (p ∷ past))) (counted_with k steps p past) (counted_next k steps p past)
+              (slice_get (switched_at k past) i) (λ pid is. inside-more pid) (λ pid is. ap (λ (f : PidSteps). f pid) (next-more steps)) (h.streams i s below));
           leaving = taken-behind k playing.leaving playing.streams p past (ap (λ o. is_some (option_map program_in o)) known) h.leaving;
           forgotten = subst (λ c. ReportIs playing.forgotten c) (sym counts-more) h.forgotten;
           all_out = λ out filed is.
@@ -308,16 +319,16 @@ module _ (k : Setting) (p : List ℕ) (past : List (List ℕ)) (known : known_ma
   inside-still : (pid : ℕ) → inside_at k (p ∷ past) (behind_at k (p ∷ past)) pid ≡ false
   inside-still pid = ap (λ b. inside_at k (p ∷ past) b pid) behind-still ∙ nothing-holds (adverts_at k (p ∷ past)) (events_at k (p ∷ past))
 
-  moves-still : moves_at k (p ∷ past) ≡ []
-  moves-still = ap (moves (switched_at k (p ∷ past)) (adverts_at k (p ∷ past)) (history_at k (p ∷ past))) behind-still
+  next-still : (steps : PidSteps) (pid : ℕ) → counted_next k steps p past pid ≡ []
+  next-still steps pid = ap (λ o. (if is_some (option_map program_in o) then counted_with k steps p past else (λ pid. [])) pid) known
 
-  goes-still : (s : SwitchedStream) (o : Option ℕ) → Counts s.counter [] × (s.is_leaving ≡ false) → GoesAs s k.packed (inside_at k (p ∷ past) (behind_at k (p ∷ past))) (moves_at k (p ∷ past)) o
-  goes-still s None g = g
-  goes-still s (Some pid) g =
-      record { counter = subst (λ steps. Counts s.counter steps) (sym (ap (counter_steps k.packed pid) moves-still)) g.0; leaving = g.1 ∙ sym (inside-still pid) }
+  goes-still : (s : SwitchedStream) (steps : PidSteps) (o : Option ℕ) → Counts s.counter [] × (s.is_leaving ≡ false) → GoesAs s (inside_at k (p ∷ past) (behind_at k (p ∷ past))) (counted_next k steps p past) o
+  goes-still s steps None g = g
+  goes-still s steps (Some pid) g =
+      record { counter = subst (λ l. Counts s.counter l) (sym (next-still steps pid)) g.0; leaving = g.1 ∙ sym (inside-still pid) }
 
-  pub plays-head : length (switched_at k (p ∷ past)) ≤ 8 → (playing : Playing) → PlaysFor playing k past → PlaysFor playing k (p ∷ past)
-  plays-head few playing h = record {
+  pub plays-head : length (switched_at k (p ∷ past)) ≤ 8 → (playing : Playing) (steps : PidSteps) → PlaysBy playing k past steps → PlaysBy playing k (p ∷ past) (counted_next k steps p past)
+  plays-head few playing steps h = record {
     events = record {
       waits = waits_off playing.events.assembler k.cue_pid p past off h.events.waits;
       obeyed = subst (λ l. ObeyedFor playing.events.obeyed l (heard k.cue_pid (high_at k) (p ∷ past))) (high-none ∙ sym high-still)
@@ -327,8 +338,8 @@ module _ (k : Setting) (p : List ℕ) (past : List (List ℕ)) (known : known_ma
         ∙ values-same (plans_at k past (behind_at k past)) (plans_at k (p ∷ past) (behind_at k (p ∷ past))) (standing k.cue_pid (high_at k) past) (λ start. plans-none start ∙ sym (plans-still few start))
         ∙ ap (values_by (plans_at k (p ∷ past) (behind_at k (p ∷ past)))) (sym standing-still);
     streams = λ i s below.
-        goes-still (slice_index_or playing.streams i s) (slice_get (switched_at k (p ∷ past)) i)
-        (subst (λ sw. GoesAs (slice_index_or playing.streams i s) k.packed (inside_at k past (behind_at k past)) (moves_at k past) (slice_get sw i)) switched-none (h.streams i s below));
+        goes-still (slice_index_or playing.streams i s) steps (slice_get (switched_at k (p ∷ past)) i)
+        (subst (λ sw. GoesAs (slice_index_or playing.streams i s) (inside_at k past (behind_at k past)) steps (slice_get sw i)) switched-none (h.streams i s below));
     leaving = first-taken k playing.leaving playing.streams p past known;
     forgotten = subst (λ c. ReportIs playing.forgotten c) (nothing-counted k past high-none ∙ sym (nothing-counted k (p ∷ past) high-still)) h.forgotten;
     all_out = λ out filed is number of listed.
@@ -341,29 +352,29 @@ module _ (k : Setting) (p : List ℕ) (past : List (List ℕ)) (known : known_ma
 -- ---- a packet of none of the streams, and of another PID than that of the cues
 
 pub plays-quiet : (playing : Playing) (k : Setting) (p : List ℕ) (past : List (List ℕ)) → on k.cue_pid p ≡ false → on_one (switched_at k past) p ≡ false → length (switched_at k (p ∷ past)) ≤ 8
-    → PlaysFor playing k past → PlaysFor playing k (p ∷ past)
-plays-quiet playing k p past off other few h = by (known_map (Some k.program) past) refl
+    → (steps : PidSteps) → PlaysBy playing k past steps → PlaysBy playing k (p ∷ past) (counted_next k steps p past)
+plays-quiet playing k p past off other few steps h = by (known_map (Some k.program) past) refl
   where
-    by : (o : Option ProgramMap) → known_map (Some k.program) past ≡ o → PlaysFor playing k (p ∷ past)
-    by None known = plays-head k p past known off few playing h
+    by : (o : Option ProgramMap) → known_map (Some k.program) past ≡ o → PlaysBy playing k (p ∷ past) (counted_next k steps p past)
+    by None known = plays-head k p past known off few playing steps h
     by (Some m) known =
         let none = begins_off_all (switched_at k past) p (behind_at k past) other in
-        plays-behind k p past m known off none playing (plays-passed playing k p past other (plays-before playing k p past none (high-more k p past m known off none) h))
+        plays-behind k p past m known off none playing steps (plays-passed playing k p past other steps (plays-before playing k p past none (high-more k p past m known off none) steps h))
 
 -- before a packet of one of the streams that begins no unit
 pub plays-on : (playing : Playing) (k : Setting) (p : List ℕ) (past : List (List ℕ)) → on k.cue_pid p ≡ false → on_one (switched_at k past) p ≡ true
-    → begins_one (switched_at k past) p (behind_at k past) ≡ false → PlaysFor playing k past → PlaysBefore playing k p past
-plays-on playing k p past off own none h = by (known_map (Some k.program) past) refl
+    → begins_one (switched_at k past) p (behind_at k past) ≡ false → (steps : PidSteps) → PlaysBy playing k past steps → PlaysBefore playing k p past steps
+plays-on playing k p past off own none steps h = by (known_map (Some k.program) past) refl
   where
-    by : (o : Option ProgramMap) → known_map (Some k.program) past ≡ o → PlaysBefore playing k p past
+    by : (o : Option ProgramMap) → known_map (Some k.program) past ≡ o → PlaysBefore playing k p past steps
     by None known = absurd (true≢false (sym own ∙ ap (λ o. on_one (pids_of (option_map program_in o)) p) known))
-    by (Some m) known = plays-before playing k p past none (high-more k p past m known off none) h
+    by (Some m) known = plays-before playing k p past none (high-more k p past m known off none) steps h
 
 -- and behind it
 pub plays-after : (playing : Playing) (k : Setting) (p : List ℕ) (past : List (List ℕ)) → on k.cue_pid p ≡ false → on_one (switched_at k past) p ≡ true
-    → begins_one (switched_at k past) p (behind_at k past) ≡ false → PlaysBehind playing k p past → PlaysFor playing k (p ∷ past)
-plays-after playing k p past off own none h = by (known_map (Some k.program) past) refl
+    → begins_one (switched_at k past) p (behind_at k past) ≡ false → (steps : PidSteps) → PlaysBehind playing k p past steps → PlaysBy playing k (p ∷ past) (counted_next k steps p past)
+plays-after playing k p past off own none steps h = by (known_map (Some k.program) past) refl
   where
-    by : (o : Option ProgramMap) → known_map (Some k.program) past ≡ o → PlaysFor playing k (p ∷ past)
+    by : (o : Option ProgramMap) → known_map (Some k.program) past ≡ o → PlaysBy playing k (p ∷ past) (counted_next k steps p past)
     by None known = absurd (true≢false (sym own ∙ ap (λ o. on_one (pids_of (option_map program_in o)) p) known))
-    by (Some m) known = plays-behind k p past m known off none playing h
+    by (Some m) known = plays-behind k p past m known off none playing steps h

@@ -17,9 +17,10 @@ use Rattle.program_follower.specs.Faults.{network_fault, first_fault}
 use Rattle.outgoing_packets.specs.Numbers.{HasPut, GoOnAs, FrontFails}
 use Rattle.ad_library.specs.Advertisements.{Advertisement}
 use Rattle.splice_switch.specs.declared.switch.Switch.{Switch}
-use Rattle.splice_plans.specs.Switching.{switched_past, switched_at_packet, rest_at}
+use Rattle.splice_plans.specs.Switching.{switched_at_packet, rest_at}
+use Rattle.splice_plans.specs.Stepping.{Journey, journey_at, puts_next}
 use Rattle.splice_plans.specs.Adverts.{setting_of}
-use Rattle.splice_playing.specs.Relations.{PlaysFor, unasked}
+use Rattle.splice_playing.specs.Relations.{PlaysBy, unasked}
 
 -- what the numbers of outgoing packets stand for: packets whose counters go on as those of all that is out
 pub record Numbers (s : Switch) (l : Option Listed) (out : List (List ℕ)) : Type 0 where
@@ -27,14 +28,18 @@ pub record Numbers (s : Switch) (l : Option Listed) (out : List (List ℕ)) : Ty
   pub put : HasPut s.out passed
   pub go_on : GoOnAs l passed out
 
--- It has been given this past, with this library, and answered no fault.
-pub record SwitchStandsFor (s : Switch) (c : Config) (filed : ℕ → Option Advertisement) (past : List (List ℕ)) : Type 0 where
+-- It has come so far, with this library, and answered no fault.
+pub record SwitchStandsAt (s : Switch) (c : Config) (filed : ℕ → Option Advertisement) (x : Journey) : Type 0 where
   pub cue_pid : s.cue_pid ≡ c.cue_pid
-  pub follower : StartsStandFor s.follower (reading_cues c) past
-  pub clean : first_fault (reading_cues c) past ≡ None
-  pub playing : PlaysFor s.playing (setting_of c filed) past
-  pub numbers : Numbers s (listed (Some c.program) past) (switched_past (setting_of c filed) past)
+  pub follower : StartsStandFor s.follower (reading_cues c) x.read
+  pub clean : first_fault (reading_cues c) x.read ≡ None
+  pub playing : PlaysBy s.playing (setting_of c filed) x.read x.counted
+  pub numbers : Numbers s (listed (Some c.program) x.read) x.put
   pub whole : s.is_spent ≡ false
+
+-- It has been given this past, with this library, and answered no fault.
+abbrev pub SwitchStandsFor : Switch → Config → (ℕ → Option Advertisement) → List (List ℕ) → Type 0
+SwitchStandsFor s c filed past = SwitchStandsAt s c filed (journey_at (setting_of c filed) past)
 
 -- Its follower has read this past, also where packets of it went out beside the switch: all that tells what is wrong with the next one.
 abbrev pub SwitchFollows : Switch → Purpose → List (List ℕ) → Type 0
@@ -52,6 +57,13 @@ FeedFails (Network fault) c filed p past fails = network_fault (reading_cues c) 
 FeedFails (Sink fault) c filed p past fails = FrontFails (switched_at_packet (setting_of c filed) p past) (λ put q. fails put q fault)
 FeedFails Failed c filed p past fails = ⊥
 
+-- the same where it has come so far
+abbrev pub FeedFailsAt : FeedFault → Config → (ℕ → Option Advertisement) → List ℕ → Journey
+    → (List (List ℕ) → List ℕ → PutFault → Type 0) → Type 0
+FeedFailsAt (Network fault) c filed p x fails = network_fault (reading_cues c) p x.read ≡ Some fault
+FeedFailsAt (Sink fault) c filed p x fails = FrontFails (puts_next (setting_of c filed) x p) (λ put q. fails put q fault)
+FeedFailsAt Failed c filed p x fails = ⊥
+
 -- at the end the network is not at fault
 abbrev pub FinishFails : FeedFault → Config → (ℕ → Option Advertisement) → List (List ℕ)
     → (List (List ℕ) → List ℕ → PutFault → Type 0) → Type 0
@@ -61,20 +73,20 @@ FinishFails Failed c filed past fails = ⊥
 
 -- the follower has been given the packet, which is of this place, and nothing was put yet
 pub record IsFollowedAs (s : Switch) (place : StartPlace) (c : Config) (filed : ℕ → Option Advertisement)
-    (p : List ℕ) (past : List (List ℕ)) : Type 0 where
+    (p : List ℕ) (x : Journey) : Type 0 where
   pub cue_pid : s.cue_pid ≡ c.cue_pid
-  pub follower : StartsStandFor s.follower (reading_cues c) (p ∷ past)
-  pub shows : StartsShow s.follower (reading_cues c) (p ∷ past)
-  pub clean : first_fault (reading_cues c) past ≡ None
-  pub sound : network_fault (reading_cues c) p past ≡ None
-  pub place_is : IsStartPlace place (reading_cues c) p past
-  pub playing : PlaysFor s.playing (setting_of c filed) past
-  pub numbers : Numbers s (listed (Some c.program) past) (switched_past (setting_of c filed) past)
+  pub follower : StartsStandFor s.follower (reading_cues c) (p ∷ x.read)
+  pub shows : StartsShow s.follower (reading_cues c) (p ∷ x.read)
+  pub clean : first_fault (reading_cues c) x.read ≡ None
+  pub sound : network_fault (reading_cues c) p x.read ≡ None
+  pub place_is : IsStartPlace place (reading_cues c) p x.read
+  pub playing : PlaysBy s.playing (setting_of c filed) x.read x.counted
+  pub numbers : Numbers s (listed (Some c.program) x.read) x.put
   pub whole : s.is_spent ≡ false
 
 -- the same, of a packet that begins a unit with this stamp, in the stream of this number
 pub record IsStart (s : Switch) (number : ℕ) (time : Option ℕ) (c : Config) (filed : ℕ → Option Advertisement)
-    (p : List ℕ) (past : List (List ℕ)) : Type 0 where
+    (p : List ℕ) (x : Journey) : Type 0 where
   pub begun : Option Begun
-  pub followed : IsFollowedAs s (places.Stream number (Start begun)) c filed p past
+  pub followed : IsFollowedAs s (places.Stream number (Start begun)) c filed p x
   pub time_is : time ≡ option_map (λ (b : Begun). b.pts) begun

@@ -4,7 +4,7 @@ ghost use Rattle.std.specs.Prelude.{◌≡◌, ◌<◌, ◌≤◌, ◌++◌, ◌
 ghost use Rattle.std.specs.Prelude.{Option, None, Some, Err, OnOk, IfOk, IfErr, IfSome, true};
 ghost use Rattle.std.specs.Option.{is_some};
 ghost use Rattle.program_follower.specs.Following.{streams_of_program};
-ghost use Rattle.ts_packet.specs.Fields.{renumbered};
+ghost use Rattle.ts_packet.specs.Fields.{in_error, renumbered};
 ghost use Rattle.ts_packet.specs.Numbering.{Step as NumberStep, Kept, Counts, moved};
 ghost use Rattle.event_table.specs.Events.{open_count_of};
 ghost use Rattle.event_table.specs.Tables.{high_time_of, events_of};
@@ -22,12 +22,16 @@ ghost use Rattle.ad_library.specs.Library.{held};
 ghost use Rattle.splice_plans.specs.Adverts.{setting_of};
 ghost use Rattle.splice_plans.specs.Switching.{switched_at_packet, rest_at};
 ghost use Rattle.splice_plans.specs.Reporting.{ReportIs, report_of};
-ghost use Rattle.splice_switch.specs.Standing.{SwitchStandsFor, SwitchFollows, switch_unasked, FeedFails, FinishFails};
+ghost use Rattle.splice_plans.specs.Stepping.{Journey, puts_next, journey_next, journey_past, journey_kept, puts_last};
+ghost use Rattle.splice_playing.specs.Relations.{IsOnStream};
+ghost use Rattle.splice_switch.specs.Standing.{SwitchStandsAt, SwitchStandsFor, SwitchFollows, switch_unasked};
+ghost use Rattle.splice_switch.specs.Standing.{FeedFails, FeedFailsAt, FinishFails};
 ghost use Rattle.outgoing_packets.specs.Faults.{FeedBlamed, KeepsSink, is_err_or};
 ghost use Rattle.splice_switch.specs.Standing.{IsFollowedAs, IsStart};
 ghost use Rattle.splice_playing.specs.Going.{plans_in};
 ghost use Rattle.splice_playing.specs.Relations.{settled_of};
 ghost use Rattle.splice_playing.specs.Resting.{all_wait};
+ghost use Rattle.splice_playing.specs.Courses.{CountsTurns};
 
 use ad_library::AdLibrary;
 use arrayvec::ArrayVec;
@@ -98,12 +102,24 @@ impl Switch {
         ensures sound { (c : Config) (past : List (List ℕ)) →
             SwitchStandsFor (switch_unasked self.old) c (held library.now) past →
             OnOk result (network_fault (reading_cues c) packet.now past ≡ None) }
+        ensures turns { (c : Config) (past : List (List ℕ)) →
+            SwitchStandsFor (switch_unasked self.old) c (held library.now) past →
+            OnOk result (CountsTurns self.old.playing self.new.playing) }
         ensures follows { (c : FollowedFor) (past : List (List ℕ)) → SwitchFollows self.old c past →
             OnOk result (SwitchFollows self.new c (packet.now ∷ past)) }
         ensures err { (start : Option (List ℕ)) (ps : List (List ℕ)) (c : Config) (past : List (List ℕ)) →
             S.holds sink.old start ps → SwitchStandsFor (switch_unasked self.old) c (held library.now) past →
             IfErr result (λ f. FeedFails f c (held library.now) packet.now past
             (λ put q x. S.fails sink.new start (ps ++ put) q x)) }
+        ensures puts { (start : Option (List ℕ)) (ps : List (List ℕ)) (c : Config) (x : Journey) →
+            S.holds sink.old start ps → SwitchStandsAt (switch_unasked self.old) c (held library.now) x →
+            OnOk result (S.holds sink.new start (ps ++ puts_next (setting_of c (held library.now)) x packet.now)) }
+        ensures goes_on { (c : Config) (x : Journey) → SwitchStandsAt (switch_unasked self.old) c (held library.now) x →
+            OnOk result (SwitchStandsAt self.new c (held library.now) (journey_next (setting_of c (held library.now)) x packet.now)) }
+        ensures stops { (start : Option (List ℕ)) (ps : List (List ℕ)) (c : Config) (x : Journey) →
+            S.holds sink.old start ps → SwitchStandsAt (switch_unasked self.old) c (held library.now) x →
+            IfErr result (λ f. FeedFailsAt f c (held library.now) packet.now x
+            (λ put q fault. S.fails sink.new start (ps ++ put) q fault)) }
         ensures well { OnOk result (WentWell (S.counts sink.old) (S.counts sink.new)) }
         ensures blamed { IfErr result (λ f. FeedBlamed f (S.counts sink.old) (S.counts sink.new) (S.is_full sink.new)) }
         ensures kept { IfErr result (λ f. KeepsSink f sink.old sink.new) }
@@ -139,12 +155,23 @@ impl Switch {
             OnOk result (SwitchStandsFor self.new c (held library.now) (packet.now ∷ past)) }
         ensures sound { (c : Config) (past : List (List ℕ)) → SwitchStandsFor self.old c (held library.now) past →
             OnOk result (network_fault (reading_cues c) packet.now past ≡ None) }
+        ensures turns { (c : Config) (past : List (List ℕ)) → SwitchStandsFor self.old c (held library.now) past →
+            OnOk result (CountsTurns self.old.playing self.new.playing) }
         ensures follows { (c : FollowedFor) (past : List (List ℕ)) → SwitchFollows self.old c past →
             OnOk result (SwitchFollows self.new c (packet.now ∷ past)) }
         ensures err { (start : Option (List ℕ)) (ps : List (List ℕ)) (c : Config) (past : List (List ℕ)) →
             S.holds sink.old start ps → SwitchStandsFor self.old c (held library.now) past →
             IfErr result (λ f. FeedFails f c (held library.now) packet.now past
             (λ put q x. S.fails sink.new start (ps ++ put) q x)) }
+        ensures puts { (start : Option (List ℕ)) (ps : List (List ℕ)) (c : Config) (x : Journey) →
+            S.holds sink.old start ps → SwitchStandsAt self.old c (held library.now) x →
+            OnOk result (S.holds sink.new start (ps ++ puts_next (setting_of c (held library.now)) x packet.now)) }
+        ensures goes_on { (c : Config) (x : Journey) → SwitchStandsAt self.old c (held library.now) x →
+            OnOk result (SwitchStandsAt self.new c (held library.now) (journey_next (setting_of c (held library.now)) x packet.now)) }
+        ensures stops { (start : Option (List ℕ)) (ps : List (List ℕ)) (c : Config) (x : Journey) →
+            S.holds sink.old start ps → SwitchStandsAt self.old c (held library.now) x →
+            IfErr result (λ f. FeedFailsAt f c (held library.now) packet.now x
+            (λ put q fault. S.fails sink.new start (ps ++ put) q fault)) }
         ensures well { OnOk result (WentWell (S.counts sink.old) (S.counts sink.new)) }
         ensures blamed { IfErr result (λ f. FeedBlamed f (S.counts sink.old) (S.counts sink.new) (S.is_full sink.new)) }
         ensures kept { IfErr result (λ f. KeepsSink f sink.old sink.new) }
@@ -236,6 +263,15 @@ impl Switch {
         self.playing.settled()
     }
 
+    /// How often a cue came, an event came further in a stream or was crossed, or events were forgotten: where it is as it was, and below the
+    /// greatest u64, at which it stops, so are the events that stand, how far each has come, and what became of those that are forgotten.
+    #[inline(always)]
+    pub fn turns(&self) -> u64
+        ensures { result ≡ self.now.playing.turns }
+    {
+        self.playing.turns()
+    }
+
     /// It is known that all events that stand wait in all streams, or that none stands.
     #[inline(always)]
     pub fn rests(&self) -> bool
@@ -261,6 +297,9 @@ impl Switch {
     pub fn follow(&mut self, packet: &Packet) -> Result<(), NetworkFault>
         ensures follows { (c : FollowedFor) (past : List (List ℕ)) → SwitchFollows self.old c past →
             OnOk result (SwitchFollows self.new c (packet.now ∷ past)) }
+        ensures stands { (c : Config) (filed : ℕ → Option Advertisement) (x : Journey) → in_error packet.now ≡ true →
+            SwitchStandsAt self.old c filed x →
+            OnOk result (SwitchStandsAt self.new c filed (journey_past (setting_of c filed) x packet.now)) }
         ensures playing { self.new.playing ≡ self.old.playing }
         ensures spent { self.new.is_spent ≡ self.old.is_spent }
     {
@@ -290,6 +329,14 @@ impl Switch {
         ensures counts { (d : SwitchedStream) (steps : List NumberStep) →
             Counts (slice_index_or self.old.playing.streams stream d).counter steps →
             Counts (slice_index_or self.new.playing.streams stream d).counter (Kept packet.now ∷ steps) }
+        ensures puts { (start : Option (List ℕ)) (ps : List (List ℕ)) (c : Config) (filed : ℕ → Option Advertisement) (x : Journey)
+            (i : IsOnStream (setting_of c filed) stream packet.now x.read) →
+            S.holds sink.old start ps → SwitchStandsAt self.old c filed x →
+            OnOk result (S.holds sink.new start (ps ++ renumbered (moved (x.counted i.pid)) packet.now ∷ [])) }
+        ensures stands { (c : Config) (filed : ℕ → Option Advertisement) (x : Journey) →
+            IsOnStream (setting_of c filed) stream packet.now x.read → SwitchStandsAt self.old c filed x →
+            SwitchStandsAt self.new c filed (journey_kept x packet.now) }
+        ensures turns { CountsTurns self.old.playing self.new.playing }
         ensures err { (start : Option (List ℕ)) (ps : List (List ℕ)) (d : SwitchedStream) (steps : List NumberStep) →
             S.holds sink.old start ps → Counts (slice_index_or self.old.playing.streams stream d).counter steps →
             IfErr result (λ f. S.fails sink.new start ps (renumbered (moved steps) packet.now) f) }
@@ -302,8 +349,10 @@ impl Switch {
 
     /// What has become of the events so far, and of those that stand, as it will stand in the report.
     pub fn report(&self, library: &AdLibrary) -> SwitchReport
-        ensures { (c : Config) (past : List (List ℕ)) → SwitchStandsFor self.now c (held library.now) past →
+        ensures stands { (c : Config) (past : List (List ℕ)) → SwitchStandsFor self.now c (held library.now) past →
             ReportIs result (report_of (setting_of c (held library.now)) past) }
+        ensures counts { (c : Config) (x : Journey) → SwitchStandsAt self.now c (held library.now) x →
+            ReportIs result (report_of (setting_of c (held library.now)) x.read) }
     {
         self.playing.report(self.follower.streams(), library)
     }
@@ -324,6 +373,11 @@ impl Switch {
             OnOk result (S.holds sink.new start (ps ++ rest_at (setting_of c (held library.now)) past)) }
         ensures report { (c : Config) (past : List (List ℕ)) → SwitchStandsFor self.old c (held library.now) past →
             IfOk result (λ r. ReportIs r (report_of (setting_of c (held library.now)) past)) }
+        ensures puts { (start : Option (List ℕ)) (ps : List (List ℕ)) (c : Config) (x : Journey) →
+            S.holds sink.old start ps → SwitchStandsAt self.old c (held library.now) x →
+            OnOk result (S.holds sink.new start (ps ++ puts_last (setting_of c (held library.now)) x)) }
+        ensures counts { (c : Config) (x : Journey) → SwitchStandsAt self.old c (held library.now) x →
+            IfOk result (λ r. ReportIs r (report_of (setting_of c (held library.now)) x.read)) }
         ensures err { (start : Option (List ℕ)) (ps : List (List ℕ)) (c : Config) (past : List (List ℕ)) →
             S.holds sink.old start ps → SwitchStandsFor self.old c (held library.now) past →
             IfErr result (λ f. FinishFails f c (held library.now) past (λ put q x. S.fails sink.new start (ps ++ put) q x)) }
@@ -353,19 +407,21 @@ impl Switch {
         sink: &mut S,
     ) -> Result<(), FeedFault>
         ensures leads { S.leads sink.old sink.new }
-        ensures ok { (start : Option (List ℕ)) (ps : List (List ℕ)) (c : Config) (past : List (List ℕ)) →
-            S.holds sink.old start ps → SwitchStandsFor self.old c (held library.now) past →
-            OnOk result (S.holds sink.new start (ps ++ switched_at_packet (setting_of c (held library.now)) packet.now past)) }
-        ensures stands { (c : Config) (past : List (List ℕ)) → SwitchStandsFor self.old c (held library.now) past →
-            OnOk result (SwitchStandsFor self.new c (held library.now) (packet.now ∷ past)) }
-        ensures sound { (c : Config) (past : List (List ℕ)) → SwitchStandsFor self.old c (held library.now) past →
-            OnOk result (network_fault (reading_cues c) packet.now past ≡ None) }
+        ensures ok { (start : Option (List ℕ)) (ps : List (List ℕ)) (c : Config) (x : Journey) →
+            S.holds sink.old start ps → SwitchStandsAt self.old c (held library.now) x →
+            OnOk result (S.holds sink.new start (ps ++ puts_next (setting_of c (held library.now)) x packet.now)) }
+        ensures stands { (c : Config) (x : Journey) → SwitchStandsAt self.old c (held library.now) x →
+            OnOk result (SwitchStandsAt self.new c (held library.now) (journey_next (setting_of c (held library.now)) x packet.now)) }
+        ensures sound { (c : Config) (x : Journey) → SwitchStandsAt self.old c (held library.now) x →
+            OnOk result (network_fault (reading_cues c) packet.now x.read ≡ None) }
+        ensures turns { (c : Config) (x : Journey) → SwitchStandsAt self.old c (held library.now) x →
+            OnOk result (CountsTurns self.old.playing self.new.playing) }
         ensures follows { (c : FollowedFor) (past : List (List ℕ)) → SwitchFollows self.old c past →
             OnOk result (SwitchFollows self.new c (packet.now ∷ past)) }
-        ensures err { (start : Option (List ℕ)) (ps : List (List ℕ)) (c : Config) (past : List (List ℕ)) →
-            S.holds sink.old start ps → SwitchStandsFor self.old c (held library.now) past →
-            IfErr result (λ f. FeedFails f c (held library.now) packet.now past
-            (λ put q x. S.fails sink.new start (ps ++ put) q x)) }
+        ensures err { (start : Option (List ℕ)) (ps : List (List ℕ)) (c : Config) (x : Journey) →
+            S.holds sink.old start ps → SwitchStandsAt self.old c (held library.now) x →
+            IfErr result (λ f. FeedFailsAt f c (held library.now) packet.now x
+            (λ put q fault. S.fails sink.new start (ps ++ put) q fault)) }
         ensures well { OnOk result (WentWell (S.counts sink.old) (S.counts sink.new)) }
         ensures blamed { IfErr result (λ f. FeedBlamed f (S.counts sink.old) (S.counts sink.new) (S.is_full sink.new)) }
         ensures kept { IfErr result (λ f. KeepsSink f sink.old sink.new) }
@@ -390,15 +446,18 @@ impl Switch {
         sink: &mut S,
     ) -> Result<(), PutFault>
         ensures leads { S.leads sink.old sink.new }
-        ensures ok { (start : Option (List ℕ)) (ps : List (List ℕ)) (c : Config) (past : List (List ℕ)) →
-            S.holds sink.old start ps → IsFollowedAs self.old place.now c (held library.now) packet.now past →
-            OnOk result (S.holds sink.new start (ps ++ switched_at_packet (setting_of c (held library.now)) packet.now past)) }
-        ensures stands { (c : Config) (past : List (List ℕ)) →
-            IsFollowedAs self.old place.now c (held library.now) packet.now past →
-            OnOk result (SwitchStandsFor self.new c (held library.now) (packet.now ∷ past)) }
-        ensures err { (start : Option (List ℕ)) (ps : List (List ℕ)) (c : Config) (past : List (List ℕ)) →
-            S.holds sink.old start ps → IsFollowedAs self.old place.now c (held library.now) packet.now past →
-            IfErr result (λ f. FrontFails (switched_at_packet (setting_of c (held library.now)) packet.now past)
+        ensures ok { (start : Option (List ℕ)) (ps : List (List ℕ)) (c : Config) (x : Journey) →
+            S.holds sink.old start ps → IsFollowedAs self.old place.now c (held library.now) packet.now x →
+            OnOk result (S.holds sink.new start (ps ++ puts_next (setting_of c (held library.now)) x packet.now)) }
+        ensures stands { (c : Config) (x : Journey) →
+            IsFollowedAs self.old place.now c (held library.now) packet.now x →
+            OnOk result (SwitchStandsAt self.new c (held library.now) (journey_next (setting_of c (held library.now)) x packet.now)) }
+        ensures turns { (c : Config) (x : Journey) →
+            IsFollowedAs self.old place.now c (held library.now) packet.now x →
+            OnOk result (CountsTurns self.old.playing self.new.playing) }
+        ensures err { (start : Option (List ℕ)) (ps : List (List ℕ)) (c : Config) (x : Journey) →
+            S.holds sink.old start ps → IsFollowedAs self.old place.now c (held library.now) packet.now x →
+            IfErr result (λ f. FrontFails (puts_next (setting_of c (held library.now)) x packet.now)
             (λ put q. S.fails sink.new start (ps ++ put) q f)) }
         ensures well { OnOk result (WentWell (S.counts sink.old) (S.counts sink.new)) }
         ensures blamed { IfErr result (λ f. Blamed f (S.counts sink.old) (S.counts sink.new) (S.is_full sink.new)) }
@@ -433,17 +492,20 @@ impl Switch {
         sink: &mut S,
     ) -> Result<(), PutFault>
         ensures leads { S.leads sink.old sink.new }
-        ensures ok { (start : Option (List ℕ)) (ps : List (List ℕ)) (c : Config) (past : List (List ℕ)) →
+        ensures ok { (start : Option (List ℕ)) (ps : List (List ℕ)) (c : Config) (x : Journey) →
             S.holds sink.old start ps →
-            IsFollowedAs self.old (StartPlace.Stream stream part.now) c (held library.now) packet.now past →
-            OnOk result (S.holds sink.new start (ps ++ switched_at_packet (setting_of c (held library.now)) packet.now past)) }
-        ensures stands { (c : Config) (past : List (List ℕ)) →
-            IsFollowedAs self.old (StartPlace.Stream stream part.now) c (held library.now) packet.now past →
-            OnOk result (SwitchStandsFor self.new c (held library.now) (packet.now ∷ past)) }
-        ensures err { (start : Option (List ℕ)) (ps : List (List ℕ)) (c : Config) (past : List (List ℕ)) →
+            IsFollowedAs self.old (StartPlace.Stream stream part.now) c (held library.now) packet.now x →
+            OnOk result (S.holds sink.new start (ps ++ puts_next (setting_of c (held library.now)) x packet.now)) }
+        ensures stands { (c : Config) (x : Journey) →
+            IsFollowedAs self.old (StartPlace.Stream stream part.now) c (held library.now) packet.now x →
+            OnOk result (SwitchStandsAt self.new c (held library.now) (journey_next (setting_of c (held library.now)) x packet.now)) }
+        ensures turns { (c : Config) (x : Journey) →
+            IsFollowedAs self.old (StartPlace.Stream stream part.now) c (held library.now) packet.now x →
+            OnOk result (CountsTurns self.old.playing self.new.playing) }
+        ensures err { (start : Option (List ℕ)) (ps : List (List ℕ)) (c : Config) (x : Journey) →
             S.holds sink.old start ps →
-            IsFollowedAs self.old (StartPlace.Stream stream part.now) c (held library.now) packet.now past →
-            IfErr result (λ f. FrontFails (switched_at_packet (setting_of c (held library.now)) packet.now past)
+            IsFollowedAs self.old (StartPlace.Stream stream part.now) c (held library.now) packet.now x →
+            IfErr result (λ f. FrontFails (puts_next (setting_of c (held library.now)) x packet.now)
             (λ put q. S.fails sink.new start (ps ++ put) q f)) }
         ensures well { OnOk result (WentWell (S.counts sink.old) (S.counts sink.new)) }
         ensures blamed { IfErr result (λ f. Blamed f (S.counts sink.old) (S.counts sink.new) (S.is_full sink.new)) }
@@ -473,15 +535,18 @@ impl Switch {
         sink: &mut S,
     ) -> Result<(), PutFault>
         ensures leads { S.leads sink.old sink.new }
-        ensures ok { (start : Option (List ℕ)) (ps : List (List ℕ)) (c : Config) (past : List (List ℕ)) →
-            S.holds sink.old start ps → IsStart self.old stream time.now c (held library.now) packet.now past →
-            OnOk result (S.holds sink.new start (ps ++ switched_at_packet (setting_of c (held library.now)) packet.now past)) }
-        ensures stands { (c : Config) (past : List (List ℕ)) →
-            IsStart self.old stream time.now c (held library.now) packet.now past →
-            OnOk result (SwitchStandsFor self.new c (held library.now) (packet.now ∷ past)) }
-        ensures err { (start : Option (List ℕ)) (ps : List (List ℕ)) (c : Config) (past : List (List ℕ)) →
-            S.holds sink.old start ps → IsStart self.old stream time.now c (held library.now) packet.now past →
-            IfErr result (λ f. FrontFails (switched_at_packet (setting_of c (held library.now)) packet.now past)
+        ensures ok { (start : Option (List ℕ)) (ps : List (List ℕ)) (c : Config) (x : Journey) →
+            S.holds sink.old start ps → IsStart self.old stream time.now c (held library.now) packet.now x →
+            OnOk result (S.holds sink.new start (ps ++ puts_next (setting_of c (held library.now)) x packet.now)) }
+        ensures stands { (c : Config) (x : Journey) →
+            IsStart self.old stream time.now c (held library.now) packet.now x →
+            OnOk result (SwitchStandsAt self.new c (held library.now) (journey_next (setting_of c (held library.now)) x packet.now)) }
+        ensures turns { (c : Config) (x : Journey) →
+            IsStart self.old stream time.now c (held library.now) packet.now x →
+            OnOk result (CountsTurns self.old.playing self.new.playing) }
+        ensures err { (start : Option (List ℕ)) (ps : List (List ℕ)) (c : Config) (x : Journey) →
+            S.holds sink.old start ps → IsStart self.old stream time.now c (held library.now) packet.now x →
+            IfErr result (λ f. FrontFails (puts_next (setting_of c (held library.now)) x packet.now)
             (λ put q. S.fails sink.new start (ps ++ put) q f)) }
         ensures well { OnOk result (WentWell (S.counts sink.old) (S.counts sink.new)) }
         ensures blamed { IfErr result (λ f. Blamed f (S.counts sink.old) (S.counts sink.new) (S.is_full sink.new)) }

@@ -35,15 +35,15 @@ invariant_of-self-2-clause-rested c = rest-there c.advance.new.self.obeyed.table
 pub invariant_of-self-clause-idle : goal.invariant_of-self-clause-idle
 invariant_of-self-clause-idle c = idle-stays c.args.self.now.events.obeyed.table c.advance_keeping_all.new.self.obeyed.table c.args.self.now.may_run c.advance_keeping_all.ensures.entries c.args.self.now.idle
 
-pub returns-in_default : goal.returns-in_default
-returns-in_default c = λ k number time p past b i.
+pub returns-in_default-clause-plays : goal.returns-in_default-clause-plays
+returns-in_default-clause-plays c = λ k number time p past steps b i.
     let filed = held c.args.library.now in
     let none = none-high k filed c.args.streams.now number time c.args.high.now p past i c.in_default.is in
     let before = (passes k filed c.args.streams.now number time c.args.high.now p past i).unheard none in
-    stays-for k filed c.args.streams.now number time c.args.high.now p past i c.args.self.now (none ∙ sym before) b
+    stays-for k filed c.args.streams.now number time c.args.high.now p past i c.args.self.now (none ∙ sym before) steps b
 
-pub returns-then-not-can_advance : goal.returns-then-not-can_advance
-returns-then-not-can_advance c = λ k number time p past b i.
+pub returns-then-not-can_advance-clause-plays : goal.returns-then-not-can_advance-clause-plays
+returns-then-not-can_advance-clause-plays c = λ k number time p past steps b i.
     let filed = held c.args.library.now in
     let listed = c.args.streams.now in
     let later = some-high k filed listed number time c.args.high.now p past i c.in-Some.high c.in-Some.is in
@@ -52,8 +52,8 @@ returns-then-not-can_advance c = λ k number time p past b i.
     let can = subst (λ h. CanAdvance h c.in-Some.high) (sym stands.high) (subst (λ r. CanAdvance (option_map ring_of (high_at k past)) r) later.2 may.can) in
     absurd (true≢false (sym (c.can_advance.ensures.1 can) ∙ c.if-not-can_advance.true))
 
-pub returns-then-is_at_rest : goal.returns-then-is_at_rest
-returns-then-is_at_rest c = λ k number time p past b i.
+pub returns-then-is_at_rest-clause-plays : goal.returns-then-is_at_rest-clause-plays
+returns-then-is_at_rest-clause-plays c = λ k number time p past steps b i.
     let filed = held c.args.library.now in
     let listed = c.args.streams.now in
     let later = some-high k filed listed number time c.args.high.now p past i c.in-Some.high c.in-Some.is in
@@ -72,7 +72,7 @@ returns-then-is_at_rest c = λ k number time p past b i.
       events = c.advance_keeping_all.ensures.obeys k.cue_pid (high_at k) p past later.0 i.cue at later.1 all b.events;
       plans = values-pass k filed listed number time c.args.high.now p past i (values_of c.advance_keeping_all.new.self.obeyed.table) (standing k.cue_pid (high_at k) (p ∷ past))
           (c.advance_keeping_all.ensures.values k.cue_pid (high_at k) p past later.0 (plans_at k past (p ∷ behind_at k past)) i.cue at later.1 all b.events b.plans);
-      streams = streams-pass k filed listed number time c.args.high.now p past i c.args.self.now.streams b.streams;
+      streams = streams-pass k filed listed number time c.args.high.now p past i c.args.self.now.streams steps b.streams;
       leaving = taken-pass k filed listed number time c.args.high.now p past i c.args.self.now.leaving c.args.self.now.streams b.leaving;
       forgotten = subst (ReportIs c.args.self.now.forgotten)
           (sym (pass.counted later.0 later.1 ∙ counts-quiet later.0 (adverts_at k past) es _ (counts_known k past (is_forgotten (high_at k past))) kept)) b.forgotten;
@@ -80,8 +80,8 @@ returns-then-is_at_rest c = λ k number time p past b i.
           (standing-still k filed listed number time c.args.high.now p past i c.args.self.now.events.obeyed.table c.in-Some.high later.0 stands can' at later.1 all) (b.all_out out);
     }
 
-pub returns-then-keeps_all : goal.returns-then-keeps_all
-returns-then-keeps_all c = λ k number time p past b i.
+pub returns-then-keeps_all-clause-plays : goal.returns-then-keeps_all-clause-plays
+returns-then-keeps_all-clause-plays c = λ k number time p past steps b i.
     let filed = held c.args.library.now in
     let listed = c.args.streams.now in
     let later = some-high k filed listed number time c.args.high.now p past i c.in-Some.high c.in-Some.is in
@@ -99,7 +99,7 @@ returns-then-keeps_all c = λ k number time p past b i.
       events = c.advance_keeping_all-then-keeps_all.ensures.obeys k.cue_pid (high_at k) p past later.0 i.cue at later.1 all b.events;
       plans = values-pass k filed listed number time c.args.high.now p past i (values_of c.advance_keeping_all-then-keeps_all.new.self.obeyed.table) (standing k.cue_pid (high_at k) (p ∷ past))
           (c.advance_keeping_all-then-keeps_all.ensures.values k.cue_pid (high_at k) p past later.0 (plans_at k past (p ∷ behind_at k past)) i.cue at later.1 all b.events b.plans);
-      streams = streams-pass k filed listed number time c.args.high.now p past i c.args.self.now.streams b.streams;
+      streams = streams-pass k filed listed number time c.args.high.now p past i c.args.self.now.streams steps b.streams;
       leaving = taken-pass k filed listed number time c.args.high.now p past i c.args.self.now.leaving c.args.self.now.streams b.leaving;
       forgotten = subst (ReportIs c.args.self.now.forgotten)
           (sym (pass.counted later.0 later.1 ∙ counts-quiet later.0 (adverts_at k past) es _ (counts_known k past (is_forgotten (high_at k past))) kept)) b.forgotten;
@@ -107,8 +107,8 @@ returns-then-keeps_all c = λ k number time p past b i.
           (standing-still k filed listed number time c.args.high.now p past i c.args.self.now.events.obeyed.table c.in-Some.high later.0 stands can' at later.1 all) (b.all_out out);
     }
 
-pub returns : goal.returns
-returns c = λ k number time p past b i.
+pub returns-clause-plays : goal.returns-clause-plays
+returns-clause-plays c = λ k number time p past steps b i.
     let filed = held c.args.library.now in
     let listed = c.args.streams.now in
     let later = some-high k filed listed number time c.args.high.now p past i c.in-Some.high c.in-Some.is in
@@ -128,7 +128,7 @@ returns c = λ k number time p past b i.
       events = c.advance.ensures.obeys k.cue_pid (high_at k) p past later.0 i.cue at later.1 b.events;
       plans = values-pass k filed listed number time c.args.high.now p past i (values_of c.advance.new.self.obeyed.table) (standing k.cue_pid (high_at k) (p ∷ past))
           (c.advance.ensures.values k.cue_pid (high_at k) p past later.0 (plans_at k past (p ∷ behind_at k past)) i.cue at later.1 b.events b.plans);
-      streams = streams-pass k filed listed number time c.args.high.now p past i c.args.self.now.streams b.streams;
+      streams = streams-pass k filed listed number time c.args.high.now p past i c.args.self.now.streams steps b.streams;
       leaving = taken-pass k filed listed number time c.args.high.now p past i c.args.self.now.leaving c.args.self.now.streams b.leaving;
       forgotten = subst (ReportIs c.with_forgotten-self.result) (sym (pass.counted later.0 later.1)) counted;
       all_out = λ out. absurd (none-some out.0 out.1);

@@ -9,7 +9,7 @@ use Rattle.splice_playing.proofs.FrontLemmas.{each-new}
 use Rattle.splice_playing.proofs.playing.Playing.new.Goals as goal
 
 pub returns : goal.returns
-returns c = λ k. record {
+returns c = λ k steps. record {
   events = c.new.ensures.obeys k.cue_pid (high_at k) refl;
   plans = c.new.ensures.values k.cue_pid (high_at k) (plans_at k [] []) refl;
   streams = λ i s l. subst (λ (t : SwitchedStream). Counts t.counter [] × (t.is_leaving ≡ false)) (sym (each-new c.new-2.result i s l)) (c.new-2.ensures.counter, c.new-2.ensures.leaving);

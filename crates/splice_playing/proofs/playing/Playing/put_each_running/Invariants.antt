@@ -21,6 +21,7 @@ invariant-loop-stream g l = record {
   keeps : KeepsEvents l.initial.self.events l.self.events;
   units : l.self.leaving ≡ l.initial.self.leaving;
   forgotten : l.self.forgotten ≡ l.initial.self.forgotten;
+  turns : l.self.turns ≡ l.initial.self.turns;
   leaving : (i : ℕ) (s : SwitchedStream) → (slice_index_or l.self.streams i s).is_leaving ≡ (slice_index_or l.initial.self.streams i s).is_leaving;
   plans : (latest latest_behind : Option ℤ) (es : List Standing) → StandsFor l.initial.self.events.obeyed.table latest es → IsReached latest l.high latest_behind
       → all_ran (held l.library) l.streams latest_behind es (values_of l.self.events.obeyed.table) l.stream (drop l.stream l.streams) ≡ all_ran (held l.library) l.streams latest_behind es (values_of l.initial.self.events.obeyed.table) 0 l.streams;

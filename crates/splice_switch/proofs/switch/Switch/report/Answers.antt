@@ -7,8 +7,19 @@ use Rattle.splice_playing.proofs.RestLemmas.{crossings}
 use Rattle.splice_switch.proofs.PremiseLemmas.{ends-with}
 use Rattle.splice_switch.proofs.switch.Switch.report.Goals as goal
 
-pub returns : goal.returns
-returns c = λ cfg past b.
+pub returns-clause-stands : goal.returns-clause-stands
+returns-clause-stands c = λ cfg past b.
+    let k = setting_of cfg (held c.args.library.now) in
+    let e = ends-with cfg (held c.args.library.now) past c.streams.result.now b.clean (c.streams.ensures (reading_cues cfg) past b.follower) in
+    c.report.ensures k past (record {
+      events = b.playing.events;
+      crossed = ap crossings b.playing.plans ∙ plans_tell_crossings k past;
+      forgotten = b.playing.forgotten;
+    }) e
+
+pub returns-clause-counts : goal.returns-clause-counts
+returns-clause-counts c = λ cfg x b.
+    let past = x.read in
     let k = setting_of cfg (held c.args.library.now) in
     let e = ends-with cfg (held c.args.library.now) past c.streams.result.now b.clean (c.streams.ensures (reading_cues cfg) past b.follower) in
     c.report.ensures k past (record {

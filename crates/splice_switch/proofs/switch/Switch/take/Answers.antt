@@ -4,58 +4,75 @@ use Rattle.splice_switch.specs.Standing.{IsFollowedAs}
 use Rattle.splice_switch.proofs.switch.Switch.take.Goals as goal
 
 pub returns-in-Ok-put-clause-ok : goal.returns-in-Ok-put-clause-ok
-returns-in-Ok-put-clause-ok g c = λ start ps cfg past h b.
+returns-in-Ok-put-clause-ok g c = λ start ps cfg x h b.
     let p = c.args.packet.now in
-    let fed : IsFollowedAs (record c.args.self.now { follower = c.feed.new.self }) c.in-Ok.place cfg (held c.args.library.now) p past =
+    let fed : IsFollowedAs (record c.args.self.now { follower = c.feed.new.self }) c.in-Ok.place cfg (held c.args.library.now) p x =
     record {
       cue_pid = b.cue_pid;
-      follower = c.in-Ok.ensures.stands (reading_cues cfg) past b.follower;
-      shows = c.in-Ok.ensures.shows (reading_cues cfg) past b.follower;
+      follower = c.in-Ok.ensures.stands (reading_cues cfg) x.read b.follower;
+      shows = c.in-Ok.ensures.shows (reading_cues cfg) x.read b.follower;
       clean = b.clean;
-      sound = c.in-Ok.ensures.sound (reading_cues cfg) past b.follower;
-      place_is = c.in-Ok.ensures.place (reading_cues cfg) past b.follower;
+      sound = c.in-Ok.ensures.sound (reading_cues cfg) x.read b.follower;
+      place_is = c.in-Ok.ensures.place (reading_cues cfg) x.read b.follower;
       playing = b.playing;
       numbers = record { passed = b.numbers.passed; put = b.numbers.put; go_on = b.numbers.go_on };
       whole = b.whole;
     } in
-    c.in-Ok-put.ensures.ok start ps cfg past h fed
+    c.in-Ok-put.ensures.ok start ps cfg x h fed
 
 pub returns-in-Ok-put-clause-stands : goal.returns-in-Ok-put-clause-stands
-returns-in-Ok-put-clause-stands g c = λ cfg past b.
+returns-in-Ok-put-clause-stands g c = λ cfg x b.
     let p = c.args.packet.now in
-    let fed : IsFollowedAs (record c.args.self.now { follower = c.feed.new.self }) c.in-Ok.place cfg (held c.args.library.now) p past =
+    let fed : IsFollowedAs (record c.args.self.now { follower = c.feed.new.self }) c.in-Ok.place cfg (held c.args.library.now) p x =
     record {
       cue_pid = b.cue_pid;
-      follower = c.in-Ok.ensures.stands (reading_cues cfg) past b.follower;
-      shows = c.in-Ok.ensures.shows (reading_cues cfg) past b.follower;
+      follower = c.in-Ok.ensures.stands (reading_cues cfg) x.read b.follower;
+      shows = c.in-Ok.ensures.shows (reading_cues cfg) x.read b.follower;
       clean = b.clean;
-      sound = c.in-Ok.ensures.sound (reading_cues cfg) past b.follower;
-      place_is = c.in-Ok.ensures.place (reading_cues cfg) past b.follower;
+      sound = c.in-Ok.ensures.sound (reading_cues cfg) x.read b.follower;
+      place_is = c.in-Ok.ensures.place (reading_cues cfg) x.read b.follower;
       playing = b.playing;
       numbers = record { passed = b.numbers.passed; put = b.numbers.put; go_on = b.numbers.go_on };
       whole = b.whole;
     } in
-    c.in-Ok-put.ensures.stands cfg past fed
+    c.in-Ok-put.ensures.stands cfg x fed
+
+pub returns-in-Ok-put-clause-turns : goal.returns-in-Ok-put-clause-turns
+returns-in-Ok-put-clause-turns g c = λ cfg x b.
+    let p = c.args.packet.now in
+    let fed : IsFollowedAs (record c.args.self.now { follower = c.feed.new.self }) c.in-Ok.place cfg (held c.args.library.now) p x =
+    record {
+      cue_pid = b.cue_pid;
+      follower = c.in-Ok.ensures.stands (reading_cues cfg) x.read b.follower;
+      shows = c.in-Ok.ensures.shows (reading_cues cfg) x.read b.follower;
+      clean = b.clean;
+      sound = c.in-Ok.ensures.sound (reading_cues cfg) x.read b.follower;
+      place_is = c.in-Ok.ensures.place (reading_cues cfg) x.read b.follower;
+      playing = b.playing;
+      numbers = record { passed = b.numbers.passed; put = b.numbers.put; go_on = b.numbers.go_on };
+      whole = b.whole;
+    } in
+    c.in-Ok-put.ensures.turns cfg x fed
 
 pub returns-in-Ok-put-clause-sound : goal.returns-in-Ok-put-clause-sound
-returns-in-Ok-put-clause-sound g c = λ cfg past b. c.in-Ok.ensures.sound (reading_cues cfg) past b.follower
+returns-in-Ok-put-clause-sound g c = λ cfg x b. c.in-Ok.ensures.sound (reading_cues cfg) x.read b.follower
 
 pub returns-in-Err-put-clause-err : goal.returns-in-Err-put-clause-err
-returns-in-Err-put-clause-err g c = λ start ps cfg past h b.
+returns-in-Err-put-clause-err g c = λ start ps cfg x h b.
     let p = c.args.packet.now in
-    let fed : IsFollowedAs (record c.args.self.now { follower = c.feed.new.self }) c.in-Ok.place cfg (held c.args.library.now) p past =
+    let fed : IsFollowedAs (record c.args.self.now { follower = c.feed.new.self }) c.in-Ok.place cfg (held c.args.library.now) p x =
     record {
       cue_pid = b.cue_pid;
-      follower = c.in-Ok.ensures.stands (reading_cues cfg) past b.follower;
-      shows = c.in-Ok.ensures.shows (reading_cues cfg) past b.follower;
+      follower = c.in-Ok.ensures.stands (reading_cues cfg) x.read b.follower;
+      shows = c.in-Ok.ensures.shows (reading_cues cfg) x.read b.follower;
       clean = b.clean;
-      sound = c.in-Ok.ensures.sound (reading_cues cfg) past b.follower;
-      place_is = c.in-Ok.ensures.place (reading_cues cfg) past b.follower;
+      sound = c.in-Ok.ensures.sound (reading_cues cfg) x.read b.follower;
+      place_is = c.in-Ok.ensures.place (reading_cues cfg) x.read b.follower;
       playing = b.playing;
       numbers = record { passed = b.numbers.passed; put = b.numbers.put; go_on = b.numbers.go_on };
       whole = b.whole;
     } in
-    c.in-Err-put.ensures.err start ps cfg past h fed
+    c.in-Err-put.ensures.err start ps cfg x h fed
 
 pub returns-in-Err-clause-err : goal.returns-in-Err-clause-err
-returns-in-Err-clause-err g c = λ start ps cfg past h b. c.in-Err.ensures.err (reading_cues cfg) past b.follower
+returns-in-Err-clause-err g c = λ start ps cfg x h b. c.in-Err.ensures.err (reading_cues cfg) x.read b.follower
