@@ -1,5 +1,5 @@
 -- A run on air: hearing the automation, one packet more, and a stretch that begins anew.
-use Rattle.std.proofs.Common.{◌≡◌, ℕ, suc, ◌+◌, ◌≤◌, ◌<◌, Bool, true, false, List, [], ◌∷◌, ◌++◌, length, Option, None, Some, refl, sym, ap, subst, ◌∙◌, arith, append_assoc, length-append}
+use Rattle.std.proofs.Common.{◌≡◌, ℕ, suc, ◌+◌, ◌≤◌, Bool, true, false, List, [], ◌∷◌, ◌++◌, length, Option, None, refl, sym, ap, subst, ◌∙◌, arith, append_assoc, length-append}
 use Rattle.std.specs.Option.{is_some}
 use Rattle.std.proofs.lemmas.List.{append-nil}
 use Rattle.psi_tables.specs.declared.config.Config.{Config}
@@ -9,7 +9,6 @@ use Rattle.as_session.specs.Session.{state_of}
 use Rattle.injector.specs.Steps.{Step, Packet, sent_at}
 use Rattle.chain_engine.specs.Automation.{Take, Exchange, takes_and_answers}
 use Rattle.chain_engine.specs.Hearing.{Replied}
-use Rattle.chain_engine.specs.Judging.{JudgesAll}
 use Rattle.chain_engine.specs.Talks.{messages_taken, judged_before, HasTalked, TalkStandsFor, loses, CountsEnd}
 use Rattle.chain_engine.specs.Runs.{asked, replies_by, report_of, Exchanged}
 use Rattle.chain_engine.specs.Airing.{Aired, read_of, Stretch, packets_through, steps_on_air, steps_ahead, put_for, sent_on_air, sent_by_ended, sent_by_all, told_by_ended, replies_by_ended, replies_by_all, HasAired}
@@ -31,7 +30,7 @@ module _ (ts us : List Take) (n m : ℕ) (e : n ≡ length (messages_taken ts)) 
       let before = steps_stay first past (omega (arith, le)) in
       ap (λ l. Packet (read_of a) ∷ asked l (steps_on_air (n + m) (ts ++ us) first past)) stays ∙ ap (λ s. Packet (read_of a) ∷ asked (judged_before n ts (first + length past)) s) before
 
-  ahead_stay : (first : ℕ) (past : List Aired) → suc (first + length past) ≤ length ts → steps_ahead (n + m) (ts ++ us) first past ≡ steps_ahead n ts first past
+  pub ahead_stay : (first : ℕ) (past : List Aired) → suc (first + length past) ≤ length ts → steps_ahead (n + m) (ts ++ us) first past ≡ steps_ahead n ts first past
   ahead_stay first past le =
       let stays = judged_stays ts us n m e (first + length past) le in
       let before = steps_stay first past (omega (arith, le)) in

@@ -15,3 +15,4 @@ pub mod UnaskedLemmas
 pub mod StageLemmas
 pub mod FollowedLemmas
 pub mod AiringLemmas
+pub mod ChainedLemmas

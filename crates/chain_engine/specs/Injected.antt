@@ -4,7 +4,7 @@ use Rattle.std.proofs.Math.ListN.{length-map}
 use Rattle.std.proofs.lemmas.List.{length-reverse}
 use Rattle.ts_packet.proofs.RunLemmas.{reverse-onto}
 use Rattle.psi_tables.specs.declared.config.Config.{Config}
-use Rattle.scte104_codec.specs.Reading.{MessageReading, message_of}
+use Rattle.scte104_codec.specs.Reading.{message_of}
 use Rattle.scte104_codec.specs.declared.reply.Reply.{Reply}
 use Rattle.injector.specs.Steps.{Step, Message, Packet, cued, sent_at}
 use Rattle.chain_engine.specs.Automation.{Take}
@@ -16,7 +16,6 @@ use Rattle.chain_engine.specs.Airing.{sent_on_air, sent_by_all, told_by_ended, H
 use Rattle.chain_engine.specs.declared.hearing.SessionEnd.{SessionEnd}
 use Rattle.chain_engine.specs.declared.report.Report.{Report}
 use Rattle.chain_engine.specs.declared.chain.Chain.{Chain}
-use Rattle.chain_engine.specs.declared.talk.Talk.{Talk}
 
 -- what an injector counts by these steps
 abbrev pub reports_of_ended : Config → ℕ → List Take → List Stretch → List Report
@@ -44,7 +43,7 @@ InjectAirsToEnd c chain exchanged ended last told sent report =
 
 -- ---- a run up to its first fault is one stretch, all of whose packets are judged
 
-asked-cued : (c : Config) (ms : List (List ℕ)) (past : List Step) → cued c (asked ms past) ≡ cued c past
+pub asked-cued : (c : Config) (ms : List (List ℕ)) (past : List Step) → cued c (asked ms past) ≡ cued c past
 asked-cued c [] past = refl
 asked-cued c (m ∷ ms) past = asked-cued c ms (Message (message_of m) ∷ past)
 

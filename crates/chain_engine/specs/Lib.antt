@@ -15,3 +15,5 @@ pub mod Unjudged
 pub mod Followed
 pub mod Airing
 pub mod Injected
+pub mod Switched
+pub mod Chained

@@ -1,7 +1,6 @@
 -- A sink that feeds a switch: what it stands for, why it fails, and what becomes of its device.
-use Rattle.std.specs.Prelude.{◌≡◌, ℕ, ◌⊎◌, List, ◌∷◌, ◌++◌, map, Bool, true, Option, Some, IsSomeAnd}
+use Rattle.std.specs.Prelude.{◌≡◌, ℕ, ◌⊎◌, List, ◌∷◌, ◌++◌, map, Bool, true, Option, Some, IsSomeAnd, if◌then◌else◌}
 use Rattle.std.proofs.Common.{refl, sym, inl, inr, ◌∙◌, subst}
-use Rattle.ts_packet.specs.Runs.{onto}
 use Rattle.ts_packet.specs.Transfers.{WentWell}
 use Rattle.ts_packet.specs.declared.tally.Tally.{Tally}
 use Rattle.ts_packet.specs.declared.sink.PutFault.{PutFault}
@@ -13,35 +12,43 @@ use Rattle.psi_tables.specs.declared.network.FeedFault.TheVariants.{Network, Sin
 use Rattle.ad_library.specs.Advertisements.{Advertisement}
 use Rattle.splice_plans.specs.Adverts.{setting_of}
 use Rattle.splice_switch.specs.declared.switch.Switch.{Switch}
-use Rattle.splice_switch.specs.Standing.{SwitchStandsFor, FeedFails}
+use Rattle.splice_switch.specs.Standing.{SwitchStandsAt, FeedFailsAt}
 use Rattle.chain_engine.specs.Runs.{OutputBlamed}
-use Rattle.chain_engine.specs.Passing.{switched_over}
+use Rattle.chain_engine.specs.Airing.{Aired, judged}
+use Rattle.chain_engine.specs.Switched.{journey_of, aired_onto, aired_over}
 use Rattle.chain_engine.specs.declared.faults.RunFault.TheVariants.{Feed}
 
--- The list that the sink stands for tells what the switch was fed before, newest first, what the output held then, and what the switch was
--- fed since: behind one list as long as the first and one as long as the second stand all three.
-abbrev pub fed_behind : List (List ℕ) → List (List ℕ) → List (List ℕ) → List (List ℕ)
-fed_behind past before fed = map (λ p. 0) past ∷ (map (λ p. 0) before ∷ (past ++ (before ++ fed)))
+-- an aired packet, as one list
+abbrev pub coded : Aired → List ℕ
+coded a = (if a.is_judged then 1 else 0) ∷ a.packet
 
--- The sink stands for this list: the output holds what it held and what the switch sends for what it was fed since. `holds` is the output's.
-pub record FeedingHolds {K : Type 0} (holds : K → Option (List ℕ) → List (List ℕ) → Type 0) (switch : Switch) (c : Config) (filed : ℕ → Option Advertisement)
-    (out : K) (start : Option (List ℕ)) (ps : List (List ℕ)) : Type 0 where
-  pub past : List (List ℕ)
+-- The list that the sink stands for tells what the switch was fed before, newest first, what the output held then, and what was put
+-- since: behind one list as long as the first and one as long as the second stand all three.
+abbrev pub fed_behind : List Aired → List (List ℕ) → List (List ℕ) → List (List ℕ)
+fed_behind past before fed = map (λ a. 0) past ∷ (map (λ p. 0) before ∷ (map coded past ++ (before ++ fed)))
+
+-- The sink stands for this list: the output holds what it held and what the switch sends for what it was fed since, which is each packet
+-- that was put, as `as_fed` has it. `holds` is the output's.
+pub record FeedingHolds {K : Type 0} (holds : K → Option (List ℕ) → List (List ℕ) → Type 0) (as_fed : List ℕ → Aired) (switch : Switch)
+    (c : Config) (filed : ℕ → Option Advertisement) (out : K) (start : Option (List ℕ)) (ps : List (List ℕ)) : Type 0 where
+  pub past : List Aired
   pub before : List (List ℕ)
   pub fed : List (List ℕ)
   pub parts : ps ≡ fed_behind past before fed
-  pub stands : SwitchStandsFor switch c filed (onto past fed)
-  pub sent : holds out start (before ++ switched_over (setting_of c filed) past fed)
+  pub stands : SwitchStandsAt switch c filed (journey_of (setting_of c filed) (aired_onto past (map as_fed fed)))
+  pub sent : holds out start (before ++ aired_over (setting_of c filed) past (map as_fed fed))
 
--- It stood for this list, and the switch did not take this packet; the kept fault says why. `fails` is the output's.
+-- It stood for this list, and the switch did not take this packet, which is judged as those before it; the kept fault says why. `fails` is
+-- the output's.
 pub record FeedingFails {K : Type 0} (fails : K → Option (List ℕ) → List (List ℕ) → List ℕ → PutFault → Type 0) (kept : Option FeedFault) (c : Config)
     (filed : ℕ → Option Advertisement) (out : K) (start : Option (List ℕ)) (ps : List (List ℕ)) (p : List ℕ) (fault : PutFault) : Type 0 where
-  pub past : List (List ℕ)
+  pub past : List Aired
   pub before : List (List ℕ)
   pub fed : List (List ℕ)
   pub parts : ps ≡ fed_behind past before fed
   pub failed : fault ≡ put_faults.Failed
-  pub why : IsSomeAnd kept (λ f. FeedFails f c filed p (onto past fed) (λ put q x. fails out start (before ++ (switched_over (setting_of c filed) past fed ++ put)) q x))
+  pub why : IsSomeAnd kept (λ f. FeedFailsAt f c filed p (journey_of (setting_of c filed) (aired_onto past (map judged fed)))
+      (λ put q x. fails out start (before ++ (aired_over (setting_of c filed) past (map judged fed) ++ put)) q x))
 
 -- The fault that is kept now was kept before, and all went well; or it came between, the switch is spent, and it is blamed on what the
 -- output's device counted.

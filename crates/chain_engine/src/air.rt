@@ -147,22 +147,33 @@ impl<M: Allocator, U: Automation> AirStage for ChainStage<'_, M, U> {
     ghost use Rattle.std.proofs.Common.{◌≡◌, length, reverse, ap, sym, subst, ◌∙◌};
     ghost use Rattle.program_follower.specs.Purposes.{writing_cues};
     ghost use Rattle.injector.specs.Injecting.{InjectorStandsFor};
-    ghost use Rattle.chain_engine.specs.Runs.{steps_of, reports_sum};
+    ghost use Rattle.ad_library.specs.Library.{held};
+    ghost use Rattle.chain_engine.specs.Runs.{steps_of, reports_sum, Exchanged};
     ghost use Rattle.chain_engine.specs.Followed.{ChainFollows, run-followed};
+    ghost use Rattle.chain_engine.specs.Chained.{ChainAirs, ChainAirsToEnd, chain-airs-first};
 
     ghost begins = { λ s c. (c ≡ writing_cues s.config.now) × (s.chain.now.service.config ≡ s.config.now) };
 
     ghost follows = { λ s c past. (c ≡ writing_cues s.config.now) × ChainFollows s.chain.now s.config.now past };
 
-    ghost tells_out = { λ s. ⊥ };
+    ghost tells_out = { λ s. Unit {0} };
 
     ghost summed = { reports_sum };
 
-    ghost airs = { λ first ended last told qs now. ⊥ };
+    ghost airs = { λ first ended last told qs now. (now.config.now ≡ first.chain.now.service.config)
+        × (now.library.now ≡ first.library.now)
+        × ChainAirs first.chain.now.service.config (held first.library.now) now.chain.now
+        (Exchanged U.exchanges U.failures first.automation.now now.automation.now) ended last told qs };
 
-    ghost airs_to_end = { λ first ended last told sent report now. ⊥ };
+    ghost airs_to_end = { λ first ended last told sent report now. ChainAirsToEnd first.chain.now.service.config (held first.library.now)
+        now.chain.now (Exchanged U.exchanges U.failures first.automation.now now.automation.now) ended last told sent report };
 
-    ghost sends_airs = { λ first c ps qs kept now tells b l s. absurd tells };
+    ghost sends_airs = { λ first c ps qs kept now tells b l s. (
+      l.1 ∙ sym b.1,
+      s.0,
+      chain-airs-first first.chain.now.service.config (held first.library.now) now.chain.now
+          (Exchanged U.exchanges U.failures first.automation.now now.automation.now) ps qs s.1.run,
+    ) };
 
     ghost sends_follows = { λ first c ps qs kept now b l s.
         let run = s.1.run in
@@ -222,7 +233,10 @@ impl<M: Allocator, U: Automation> AirStage for ChainStage<'_, M, U> {
     }
 
     fn finish_last<K: PacketSink>(&mut self, out: &mut K) -> Result<Report, PutFault> {
-        self.finish(out)
+        match self.chain.service.finish(self.library, out) {
+            Ok(events) => Ok(Report::of_chain(self.chain.service.counts(), events)),
+            Err(fault) => Err(put_fault(fault)),
+        }
     }
 
     fn sum(one: &Report, other: &Report) -> Report {
@@ -337,22 +351,27 @@ impl<M: Allocator, U: Automation> AirStage for InjectorStage<'_, M, U> {
 impl AirStage for SwitchStage<'_> {
     ghost use Rattle.std.proofs.Common.{◌≡◌, reverse, sym, ap, subst, ◌∙◌};
     ghost use Rattle.program_follower.specs.Purposes.{reading_cues};
+    ghost use Rattle.ad_library.specs.Library.{held};
     ghost use Rattle.splice_plans.specs.Reporting.{events_sum};
     ghost use Rattle.splice_switch.specs.Standing.{SwitchFollows};
+    ghost use Rattle.chain_engine.specs.Switched.{SwitchAirs, SwitchAirsToEnd, switch-airs-first};
 
     ghost begins = { λ s c. c ≡ reading_cues s.config };
 
     ghost follows = { λ s c past. (c ≡ reading_cues s.config) × SwitchFollows s.switch c past };
 
-    ghost tells_out = { λ s. ⊥ };
+    ghost tells_out = { λ s. Unit {0} };
 
     ghost summed = { events_sum };
 
-    ghost airs = { λ first ended last told qs now. ⊥ };
+    ghost airs = { λ first ended last told qs now. (now.config ≡ first.config) × (now.library.now ≡ first.library.now)
+        × SwitchAirs now.switch first.config (held first.library.now) ended last told qs };
 
-    ghost airs_to_end = { λ first ended last told sent report now. ⊥ };
+    ghost airs_to_end = { λ first ended last told sent report now.
+        SwitchAirsToEnd first.config (held first.library.now) ended last told sent report };
 
-    ghost sends_airs = { λ first c ps qs kept now tells b l s. absurd tells };
+    ghost sends_airs = { λ first c ps qs kept now tells b l s.
+        (l, s.0, switch-airs-first now.switch first.config (held first.library.now) ps qs s.1) };
 
     ghost sends_follows = { λ first c ps qs kept now b l s.
         (b ∙ ap reading_cues (sym l), subst (λ d. SwitchFollows now.switch d (reverse ps)) (sym b) s.1.stands.follower) };
@@ -403,7 +422,10 @@ impl AirStage for SwitchStage<'_> {
     }
 
     fn finish_last<K: PacketSink>(&mut self, out: &mut K) -> Result<SwitchReport, PutFault> {
-        self.finish(out)
+        match self.switch.finish(self.library, out) {
+            Ok(report) => Ok(report),
+            Err(fault) => Err(put_fault(fault)),
+        }
     }
 
     fn sum(one: &SwitchReport, other: &SwitchReport) -> SwitchReport

@@ -17,6 +17,10 @@ ghost use Rattle.splice_plans.specs.Adverts.{setting_of};
 ghost use Rattle.splice_plans.specs.Switching.{rest_at};
 ghost use Rattle.splice_plans.specs.Reporting.{ReportIs, report_of};
 ghost use Rattle.splice_switch.specs.Standing.{FinishFails};
+ghost use Rattle.splice_plans.specs.Stepping.{Journey, puts_last};
+ghost use Rattle.splice_switch.specs.Standing.{SwitchStandsAt};
+ghost use Rattle.chain_engine.specs.Airing.{Aired, judged};
+ghost use Rattle.chain_engine.specs.Chained.{ServiceAirs, PassedOnAir};
 ghost use Rattle.chain_engine.specs.Runs.{OutputBlamed};
 ghost use Rattle.chain_engine.specs.Passing.{ServiceStandsFor, PassFails, PassesBy, chain_at, service_unasked};
 
@@ -120,6 +124,9 @@ impl Service {
             → ServiceStandsFor self.now c filed steps → result ≡ true → PassesBy self.now c filed packet.now steps }
         ensures injector { (c : Config) (steps : List Step) → InjectsFor c self.now steps → result ≡ true
             → InjectsFor c self.now (PacketStep packet.now ∷ steps) }
+        ensures airs { (c : Config) (filed : ℕ → Option Advertisement) (steps : List Step) (fed : List Aired)
+            → ServiceAirs self.now c filed steps fed → result ≡ true
+            → PassedOnAir self.now c filed (judged packet.now) steps fed (λ qs. qs ≡ packet.now ∷ []) }
     {
         of_bytes(packet);
         self.injector.overlooks(packet)
@@ -151,6 +158,10 @@ impl Service {
             → ServiceStandsFor self.old c (held library.now) steps → K.holds out.old start ps
             → OnOk result (ServiceStandsFor self.new c (held library.now) (PacketStep packet.now ∷ steps)
             × K.holds out.new start (ps ++ chain_at c (held library.now) packet.now steps)) }
+        ensures airs { (c : Config) (steps : List Step) (fed : List Aired) (start : Option (List ℕ)) (ps : List (List ℕ))
+            → ServiceAirs self.old c (held library.now) steps fed → K.holds out.old start ps
+            → OnOk result (PassedOnAir self.new c (held library.now) (judged packet.now) steps fed
+            (λ qs. K.holds out.new start (ps ++ qs))) }
         ensures err { (c : Config) (steps : List Step) (start : Option (List ℕ)) (ps : List (List ℕ))
             → ServiceStandsFor self.old c (held library.now) steps → K.holds out.old start ps
             → IfErr result (λ f. PassFails f c (held library.now) packet.now steps (K.holds out.new start ps)
@@ -188,6 +199,10 @@ impl Service {
             → ServiceStandsFor self.old c (held library.now) steps → K.holds out.old start ps
             → OnOk result (ServiceStandsFor self.new c (held library.now) (PacketStep packet.now ∷ steps)
             × K.holds out.new start (ps ++ chain_at c (held library.now) packet.now steps)) }
+        ensures airs { (c : Config) (steps : List Step) (fed : List Aired) (start : Option (List ℕ)) (ps : List (List ℕ))
+            → ServiceAirs self.old c (held library.now) steps fed → K.holds out.old start ps
+            → OnOk result (PassedOnAir self.new c (held library.now) (judged packet.now) steps fed
+            (λ qs. K.holds out.new start (ps ++ qs))) }
         ensures err { (c : Config) (steps : List Step) (start : Option (List ℕ)) (ps : List (List ℕ))
             → ServiceStandsFor self.old c (held library.now) steps → K.holds out.old start ps
             → IfErr result (λ f. PassFails f c (held library.now) packet.now steps (K.holds out.new start ps)
@@ -237,6 +252,11 @@ impl Service {
             → OnOk result (K.holds out.new start (ps ++ rest_at (setting_of c (held library.now)) (cued c steps))) }
         ensures report { (c : Config) (steps : List Step) → ServiceStandsFor self.old c (held library.now) steps
             → IfOk result (λ r. ReportIs r (report_of (setting_of c (held library.now)) (cued c steps))) }
+        ensures puts { (c : Config) (x : Journey) (start : Option (List ℕ)) (ps : List (List ℕ))
+            → SwitchStandsAt self.old.switch c (held library.now) x → K.holds out.old start ps
+            → OnOk result (K.holds out.new start (ps ++ puts_last (setting_of c (held library.now)) x)) }
+        ensures counts { (c : Config) (x : Journey) → SwitchStandsAt self.old.switch c (held library.now) x
+            → IfOk result (λ r. ReportIs r (report_of (setting_of c (held library.now)) x.read)) }
         ensures err { (c : Config) (steps : List Step) (start : Option (List ℕ)) (ps : List (List ℕ))
             → ServiceStandsFor self.old c (held library.now) steps → K.holds out.old start ps
             → IfErr result (λ f. FinishFails f c (held library.now) (cued c steps)
@@ -270,9 +290,10 @@ impl<K: PacketSink> PacketSink for Feeding<'_, K> {
     ghost use Rattle.std.specs.Prelude.{◌≡◌, true};
     ghost use Rattle.std.proofs.Common.{refl, ap, ◌∙◌};
     ghost use Rattle.ad_library.specs.Library.{held};
+    ghost use Rattle.chain_engine.specs.Airing.{judged};
     ghost use Rattle.chain_engine.specs.Nested.{FeedingHolds, FeedingFails, FaultKept, FaultKept-refl, FaultKept-trans};
 
-    ghost holds = { λ g start ps. FeedingHolds K.holds g.switch.now g.config.now (held g.library.now) g.out.now start ps };
+    ghost holds = { λ g start ps. FeedingHolds K.holds judged g.switch.now g.config.now (held g.library.now) g.out.now start ps };
 
     ghost fails = { λ g start ps p f. FeedingFails K.fails g.fault g.config.now (held g.library.now) g.out.now start ps p f };
 

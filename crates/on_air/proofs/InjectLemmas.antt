@@ -21,7 +21,7 @@ use Rattle.on_air.specs.AirInjects.{InjectedOnAir, ended_for, last_for}
 
 -- ---- the stretches have all packets
 
-abbrev packets_in : Purpose → List (List Entry) → ℕ
+abbrev pub packets_in : Purpose → List (List Entry) → ℕ
 packets_in c ss = packets_through (ended_in c ss) + length (aired (newest ss))
 
 count-next : (c : Purpose) (p : List ℕ) (ss : List (List Entry)) → packets_in c (with_next c p ss) ≡ suc (packets_in c ss)
@@ -31,7 +31,7 @@ count-next c p (past ∷ earlier) = by (verdict c p past) where
   by (Is j) = omega arith
   by (BeginsNew fault) = omega arith
 
-count-all : (c : Purpose) (past : List (List ℕ)) → packets_in c (stretches c past) ≡ length past
+pub count-all : (c : Purpose) (past : List (List ℕ)) → packets_in c (stretches c past) ≡ length past
 count-all c [] = omega arith
 count-all c (p ∷ past) = count-next c p (stretches c past) ∙ ap suc (count-all c past)
 

@@ -4,3 +4,4 @@ mod AirLemmas
 mod OutputLemmas
 mod LoopLemmas
 pub mod InjectLemmas
+pub mod ChainLemmas

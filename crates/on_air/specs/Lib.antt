@@ -5,3 +5,5 @@ pub mod AirRuns
 pub mod Tails
 pub mod AirOutputs
 pub mod AirInjects
+pub mod AirSplices
+pub mod AirChains

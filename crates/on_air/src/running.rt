@@ -17,7 +17,9 @@ ghost use Rattle.on_air.specs.Plain.{IsPlain, IsToldPlain, GoesPlainly, IsSound,
 ghost use Rattle.on_air.specs.Stretches.{Entry, as_read};
 ghost use Rattle.on_air.specs.AirRuns.{AirStands, TellsOf, TellsStretches, newest, all_next};
 ghost use Rattle.on_air.specs.AirOutputs.{IsOnAir, EndsOnAir, stretches_in};
+ghost use Rattle.on_air.specs.AirChains.{RanOnAir};
 ghost use Rattle.on_air.specs.AirInjects.{InjectedOnAir};
+ghost use Rattle.on_air.specs.AirSplices.{SplicedOnAir};
 
 use crate::air::Air;
 use crate::report::AirReport;
@@ -44,6 +46,7 @@ pub fn of_sink(fault: PutFault) -> RunFault
 /// # Errors
 ///
 /// The fault of the device that failed.
+#[inline(always)]
 pub fn read_next<P: PausingPackets, K: GatheringSink>(
     network: &mut P,
     next: &mut Packet,
@@ -204,6 +207,10 @@ pub fn run_on_air<M: Allocator, P: PausingPackets, U: Automation, K: GatheringSi
     ensures stretches { (c : Config) (start : Option (List ℕ)) (before : List (List ℕ)) (bs : List ℕ) → ChainStandsFor chain c
         → K.holds out.old start before → P.left network.old ≡ Some bs
         → IfOk result (λ told. TellsStretches told (writing_cues c) bs) }
+    ensures out { (c : Config) (start : Option (List ℕ)) (before : List (List ℕ)) (bs : List ℕ) → ChainStandsFor chain c
+        → K.holds out.old start before → P.left network.old ≡ Some bs
+        → IfOk result (λ told. (later : U) × RanOnAir c (held library.now) bs (λ ps. K.holds out.new start (before ++ ps))
+        (Exchanged U.exchanges U.failures automation.old later) told.report) }
     ensures devices { IfErr result IsOfDevices }
 {
     let mut chain = chain;
@@ -264,6 +271,9 @@ pub fn splice_on_air<P: PausingPackets, K: GatheringSink, A: AirWatch>(
         → IfOk result (RunsPlainly (Spliced config (held library.now) bs (λ ps. K.holds out.new start (before ++ ps))) bs) }
     ensures stretches { (start : Option (List ℕ)) (before : List (List ℕ)) (bs : List ℕ) → K.holds out.old start before
         → P.left network.old ≡ Some bs → IfOk result (λ told. TellsStretches told (reading_cues config) bs) }
+    ensures out { (start : Option (List ℕ)) (before : List (List ℕ)) (bs : List ℕ) → K.holds out.old start before
+        → P.left network.old ≡ Some bs
+        → IfOk result (λ told. SplicedOnAir config (held library.now) bs (λ ps. K.holds out.new start (before ++ ps)) told.report) }
     ensures devices { IfErr result IsOfDevices }
 {
     let mut stage = SwitchStage::new(config, library);

@@ -1,4 +1,4 @@
-use Rattle.std.proofs.Common.{[], ◌∷◌, ◌++◌, length, refl, sym, subst}
+use Rattle.std.proofs.Common.{[], length, refl, subst}
 use Rattle.injector.specs.Injecting.{InjectorStandsFor}
 use Rattle.chain_engine.specs.Runs.{reply_in, Exchanged}
 use Rattle.chain_engine.specs.Stages.{InjectsFor}

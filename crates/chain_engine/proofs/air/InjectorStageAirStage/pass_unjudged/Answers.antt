@@ -1,4 +1,4 @@
-use Rattle.std.proofs.Common.{rules, ◌≡◌, [], ◌∷◌, ◌++◌, map, length, sym, ap, subst, ◌∙◌, append_assoc}
+use Rattle.std.proofs.Common.{rules, [], ◌∷◌, ◌++◌, map, length, ap, subst, ◌∙◌, append_assoc}
 use Rattle.ts_packet.specs.Fields.{marked}
 use Rattle.injector.specs.Injecting.{InjectorStandsFor}
 use Rattle.injector.specs.Steps.{Packet, sent_at}

@@ -6,3 +6,6 @@ returns-clause-ok g c = λ d steps start ps stands is_held. c.finish.ensures.ok 
 
 pub returns-clause-err : goal.returns-clause-err
 returns-clause-err g c = λ d steps start ps stands is_held. c.finish.ensures.err start ps d (cued d steps) is_held stands.switch
+
+pub returns-clause-puts : goal.returns-clause-puts
+returns-clause-puts g c = λ d x start ps stands is_held. c.finish.ensures.puts start ps d x is_held stands

@@ -8,6 +8,11 @@ returns-in-Ok-clause-ok g c = λ d steps start ps stands is_held.
     let by = c.overlooks.ensures.stands d (held c.args.library.now) steps stands c.if-not-overlooks.false in
     (by.stands, subst (λ l. g.K.PacketSink.holds c.put.new.self start (ps ++ l)) (sym by.alone) (c.in-Ok.ensures.ok start ps is_held))
 
+pub returns-in-Ok-clause-airs : goal.returns-in-Ok-clause-airs
+returns-in-Ok-clause-airs g c = λ d steps fed start ps stands is_held.
+    let by = c.overlooks.ensures.airs d (held c.args.library.now) steps fed stands c.if-not-overlooks.false in
+    record { airs = by.airs; out = subst (λ l. g.K.PacketSink.holds c.put.new.self start (ps ++ l)) (sym by.out) (c.in-Ok.ensures.ok start ps is_held) }
+
 pub returns-in-Err-clause-err : goal.returns-in-Err-clause-err
 returns-in-Err-clause-err g c = λ d steps start ps stands is_held.
     let by = c.overlooks.ensures.stands d (held c.args.library.now) steps stands c.if-not-overlooks.false in
