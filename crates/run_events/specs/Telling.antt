@@ -1,7 +1,8 @@
 -- What is told of a run: the lines of a program, and how many of them say what became of its breaks.
-use Rattle.std.specs.Prelude.{◌≡◌, ℕ, ◌+◌, List, [], ◌∷◌, map}
+use Rattle.std.specs.Prelude.{◌≡◌, ℕ, zero, suc, ◌+◌, List, [], ◌∷◌, map, None}
+use Rattle.chain_engine.specs.declared.hearing.SessionEnd.TheVariants.{BadSize}
 use Rattle.run_events.specs.declared.occurrence.What.{What}
-use Rattle.run_events.specs.declared.occurrence.What.TheVariants.{Played, NotFitted, Unconditioned}
+use Rattle.run_events.specs.declared.occurrence.What.TheVariants.{Played, NotFitted, Unconditioned, Session}
 use Rattle.run_events.specs.declared.occurrence.Occurrence.{Occurrence}
 use Rattle.run_events.specs.declared.watch.Site.{Site}
 
@@ -38,3 +39,8 @@ pub record Tells {W : Type 0} (hears : W → List Occurrence → W → Type 0) (
   pub are_played : lines_that tells_played lines ≡ played
   pub are_not_fitted : lines_that tells_not_fitted lines ≡ not_fitted
   pub are_unconditioned : lines_that tells_unconditioned lines ≡ unconditioned
+
+-- what is told behind a run of an automation that has ended so many sessions for a size that no message has, where no request is told
+abbrev pub closed_lines : ℕ → List Occurrence
+closed_lines zero = []
+closed_lines (suc n) = record { service = None; packet = 0; what = Session BadSize } ∷ []

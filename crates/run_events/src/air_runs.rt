@@ -16,7 +16,9 @@ ghost use Rattle.chain_engine.specs.ChainRuns.{Ran};
 ghost use Rattle.on_air.specs.Plain.{IsPlain, IsToldPlain, GoesPlainly, IsSound, RunsPlainly, IsOfDevices};
 ghost use Rattle.on_air.specs.Stretches.{Entry, as_read};
 ghost use Rattle.on_air.specs.AirRuns.{TellsStretches};
+ghost use Rattle.on_air.specs.AirChains.{RanOnAir};
 ghost use Rattle.on_air.specs.AirInjects.{InjectedOnAir};
+ghost use Rattle.on_air.specs.AirSplices.{SplicedOnAir};
 
 use crate::told::{Sight, Told};
 use crate::watch::Watch;
@@ -57,6 +59,10 @@ pub fn run_told_on_air<
     ensures stretches { (c : Config) (start : Option (List ℕ)) (before : List (List ℕ)) (bs : List ℕ) → ChainStandsFor chain c
         → K.holds out.old start before → P.left network.old ≡ Some bs
         → IfOk result (λ told. TellsStretches told (writing_cues c) bs) }
+    ensures out { (c : Config) (start : Option (List ℕ)) (before : List (List ℕ)) (bs : List ℕ) → ChainStandsFor chain c
+        → K.holds out.old start before → P.left network.old ≡ Some bs
+        → IfOk result (λ told. (later : U) × RanOnAir c (held library.now) bs (λ ps. K.holds out.new start (before ++ ps))
+        (Exchanged U.exchanges U.failures automation.old later) told.report) }
     ensures devices { IfErr result IsOfDevices }
 {
     let mut chain = chain;
@@ -130,6 +136,9 @@ pub fn splice_told_on_air<P: PausingPackets, K: GatheringSink, A: AirWatch, W: W
         → IfOk result (RunsPlainly (Spliced config (held library.now) bs (λ ps. K.holds out.new start (before ++ ps))) bs) }
     ensures stretches { (start : Option (List ℕ)) (before : List (List ℕ)) (bs : List ℕ) → K.holds out.old start before
         → P.left network.old ≡ Some bs → IfOk result (λ told. TellsStretches told (reading_cues config) bs) }
+    ensures out { (start : Option (List ℕ)) (before : List (List ℕ)) (bs : List ℕ) → K.holds out.old start before
+        → P.left network.old ≡ Some bs
+        → IfOk result (λ told. SplicedOnAir config (held library.now) bs (λ ps. K.holds out.new start (before ++ ps)) told.report) }
     ensures devices { IfErr result IsOfDevices }
 {
     let mut stage = SwitchStage::new(config, library);

@@ -50,13 +50,15 @@ pub struct SeenServices<'a, A, W> {
     is_on: bool,
     /// Each cue is, at its packet.
     is_detailed: bool,
-    /// How many packets have passed; the count stops at the greatest u64.
+    /// How many packets have passed, modulo 2⁶⁴.
     passed: u64,
     /// The number of the packet behind which the services are shown.
     packet: u64,
     /// Cues may have come before it.
     has_news: bool,
     services: ArrayVec<ServiceSight, MOST>,
+    /// The place of the service that is shown next, where all are in turn.
+    next: usize,
 }
 
 impl<'a, A, W: Watch> SeenServices<'a, A, W> {
@@ -72,11 +74,23 @@ impl<'a, A, W: Watch> SeenServices<'a, A, W> {
             packet: 0,
             has_news: false,
             services: ArrayVec::new(),
+            next: 0,
         }
     }
 
     /// Where the service of this program stands among those that are known, which it joins.
     fn place_of(&mut self, program: u16) -> usize {
+        let place = self.next;
+        let place = match self.services.get(place) {
+            Some(sight) if sight.program == program => place,
+            _ => self.find(program),
+        };
+        self.next = place.saturating_add(1);
+        place
+    }
+
+    /// Looks it up among all, and adds it where it is not there.
+    fn find(&mut self, program: u16) -> usize {
         for place in 0..self.services.len() {
             if self.services[place].program == program {
                 return place;
@@ -122,11 +136,8 @@ impl<A: ServicesWatch, W: Watch> ServicesWatch for SeenServices<'_, A, W> {
 
     #[inline(always)]
     fn looks(&mut self, packet: &Packet) -> bool {
-        if !self.is_on {
-            return false;
-        }
         self.packet = self.passed;
-        self.passed = self.passed.saturating_add(1);
+        self.passed = self.passed.wrapping_add(1);
         self.has_news = self.is_detailed && self.watch.takes_news();
         self.has_news || packet.unit_start()
     }
@@ -144,21 +155,12 @@ impl<A: ServicesWatch, W: Watch> ServicesWatch for SeenServices<'_, A, W> {
                 _ => self.packet,
             },
         };
-        let null = &Packet::null();
-        let taken = match shown {
-            Shown::Judged(packet) => Taken {
-                packet,
-                has_news: self.has_news,
-            },
-            Shown::Unjudged => Taken {
-                packet: null,
-                has_news: self.has_news,
-            },
-            Shown::Last => Taken {
-                packet: null,
-                has_news: true,
-            },
+        let (packet, has_news) = match shown {
+            Shown::Judged(packet) => (Some(packet), self.has_news),
+            Shown::Unjudged => (None, self.has_news),
+            Shown::Last => (None, true),
         };
+        let taken = Taken { packet, has_news };
         if let Some(sight) = self.services.get_mut(place) {
             sight.is_found = sight.is_found || service.pid_count() > 0;
             sight
@@ -211,6 +213,9 @@ where
         → P.left network.old ≡ Some bs → IfOk result (λ told. TellsServices told cs bs) }
     ensures devices { IfErr result IsOfDevices }
 {
+    if !listener.is_on() {
+        return run_services_on_air(services, network, automation, libraries, out, watch);
+    }
     let mut seen = SeenServices::new(watch, listener);
     match run_services_on_air(services, network, automation, libraries, out, &mut seen) {
         Ok(report) => {

@@ -1,5 +1,8 @@
 //! An automation that is listened to besides.
 
+ghost use Rattle.std.specs.Prelude.{◌≡◌};
+ghost use Rattle.run_events.specs.Telling.{closed_lines};
+
 use crate::occurrence::{Asked, Occurrence, What};
 use crate::watch::Watch;
 use as_session::{Got, Session};
@@ -87,12 +90,28 @@ pub struct Hearing<W, M: Allocator = Global> {
     pub overheard: Option<Overheard<M>>,
 }
 
+impl<W: Watch, M: Allocator> Hearing<W, M> {
+    /// Tells, behind a run of which no request was told, whether the automation has ended a session for a size that no message has.
+    pub fn tell_closed<U: Sessions>(&mut self, automation: &U)
+        ensures told { W.hears self.old.watch (closed_lines (U.closed_so_far automation.now)) self.new.watch }
+        ensures overheard { self.new.overheard ≡ self.old.overheard }
+    {
+        if automation.closed() > 0 {
+            self.watch.tell(&Occurrence {
+                service: None,
+                packet: 0,
+                what: What::Session(SessionEnd::BadSize),
+            });
+        }
+    }
+}
+
 /// An automation that does what it does alone, and of which each request is told with its verdict.
 #[derive(Drop)]
 pub struct HeardAutomation<'a, U, W, M: Allocator = Global> {
     inner: &'a mut U,
     hearing: &'a mut Hearing<W, M>,
-    /// How many takes there were: the number of the packet that comes next.
+    /// How many takes there were, modulo 2⁶⁴: the number of the packet that comes next.
     packet: u64,
     /// How many sessions the automation has ended for a size that no message has, of which was told.
     closed: u64,
@@ -124,7 +143,7 @@ impl<U, W: Watch, M: Allocator> HeardAutomation<'_, U, W, M> {
     {
         self.hearing.watch.tell(&Occurrence {
             service: None,
-            packet: self.packet.saturating_sub(1),
+            packet: self.packet.wrapping_sub(1),
             what,
         });
     }
@@ -180,7 +199,7 @@ impl<U: Automation + Sessions, W: Watch, M: Allocator> Automation for HeardAutom
     #[inline(always)]
     fn take(&mut self, room: &mut [u8]) -> Taken {
         let taken = self.inner.take(room);
-        self.packet = self.packet.saturating_add(1);
+        self.packet = self.packet.wrapping_add(1);
         let closed = self.inner.closed();
         if closed > self.closed {
             self.closed = closed;

@@ -32,6 +32,9 @@ pub trait BreakStage: Stage {
     /// What stands of the breaks of this program.
     fn breaks(&self, place: usize) -> Option<Breaks<'_>>;
 
+    /// How often what stands of the breaks that switches play has turned, over all programs, modulo 2⁶⁴.
+    fn turns(&self) -> u64;
+
     /// The map of this program was found by its PAT.
     fn is_found(&self, place: usize) -> bool;
 
@@ -62,6 +65,11 @@ impl<M: Allocator, U: Automation> BreakStage for ChainStage<'_, M, U> {
     #[inline(always)]
     fn breaks(&self, _place: usize) -> Option<Breaks<'_>> {
         Some(Breaks::Played(self.service().switch(), self.library()))
+    }
+
+    #[inline(always)]
+    fn turns(&self) -> u64 {
+        self.service().switch().turns()
     }
 
     fn is_found(&self, _place: usize) -> bool {
@@ -101,6 +109,11 @@ impl<M: Allocator, U: Automation> BreakStage for InjectorStage<'_, M, U> {
         Some(Breaks::Cued(self.service().injector()))
     }
 
+    #[inline(always)]
+    fn turns(&self) -> u64 {
+        0
+    }
+
     fn is_found(&self, _place: usize) -> bool {
         self.service().pid_count() > 0
     }
@@ -136,6 +149,11 @@ impl BreakStage for SwitchStage<'_> {
     #[inline(always)]
     fn breaks(&self, _place: usize) -> Option<Breaks<'_>> {
         Some(Breaks::Played(self.switch(), self.library()))
+    }
+
+    #[inline(always)]
+    fn turns(&self) -> u64 {
+        self.switch().turns()
     }
 
     fn is_found(&self, _place: usize) -> bool {
@@ -178,6 +196,16 @@ impl<M: Allocator, U: Automation> BreakStage for ServicesStage<'_, M, U> {
         let service = self.services().get(place)?;
         let library = self.libraries().get(place)?;
         Some(Breaks::Played(service.switch(), library))
+    }
+
+    fn turns(&self) -> u64 {
+        let mut turns = 0u64;
+        for place in 0..self.services().count() {
+            if let Some(service) = self.services().get(place) {
+                turns = turns.wrapping_add(service.switch().turns());
+            }
+        }
+        turns
     }
 
     fn is_found(&self, place: usize) -> bool {

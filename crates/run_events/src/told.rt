@@ -32,8 +32,10 @@ pub(crate) struct Sight {
     is_on: bool,
     /// Each cue is, at its packet.
     is_detailed: bool,
-    /// How many packets have come; the count stops at the greatest u64.
+    /// How many packets have come, modulo 2⁶⁴.
     packets: u64,
+    /// The stage's count of turns.
+    turns: u64,
     /// A program was found in a stretch that is over.
     has_found: bool,
     /// The breaks of each program that a switch plays.
@@ -53,6 +55,7 @@ impl Sight {
             is_on,
             is_detailed,
             packets: 0,
+            turns: 0,
             has_found: false,
             trackers,
             cues: CueTracker::new(),
@@ -95,7 +98,7 @@ impl Sight {
         }
     }
 
-    /// Looks at a stage behind a packet that it took.
+    /// Looks at a stage behind a packet that it took. Where only what became of breaks is told, it looks at none where nothing has turned.
     #[inline(always)]
     pub(crate) fn look<S: BreakStage, W: Watch>(
         &mut self,
@@ -103,29 +106,36 @@ impl Sight {
         packet: &Packet,
         watch: &mut W,
     ) {
+        if self.is_detailed || packet.unit_start() && self.turns != stage.turns() {
+            self.look_closely(stage, packet, watch);
+        }
+        self.packets = self.packets.wrapping_add(1);
+    }
+
+    /// Looks at a stage behind a packet behind which something may have changed.
+    #[inline(never)]
+    fn look_closely<S: BreakStage, W: Watch>(&mut self, stage: &S, packet: &Packet, watch: &mut W) {
         if !self.is_on {
             return;
         }
+        self.turns = stage.turns();
         let has_news = self.is_detailed && (watch.takes_news() || stage.is_cue(packet));
         if has_news || packet.unit_start() {
+            let packet = Some(packet);
             self.look_at_all(stage, Taken { packet, has_news }, watch);
         }
-        self.packets = self.packets.saturating_add(1);
     }
 
     /// Looks at a stage behind a packet that it passed on unjudged: cues may have gone out before it.
     pub(crate) fn pass_over<S: BreakStage, W: Watch>(&mut self, stage: &S, watch: &mut W) {
-        if !self.is_on {
-            return;
-        }
         if self.is_detailed && watch.takes_news() {
             let taken = Taken {
-                packet: &Packet::null(),
+                packet: None,
                 has_news: true,
             };
             self.look_at_all(stage, taken, watch);
         }
-        self.packets = self.packets.saturating_add(1);
+        self.packets = self.packets.wrapping_add(1);
     }
 
     /// Tells of the end of a stretch, with which so many breaks were lost.
@@ -151,7 +161,7 @@ impl Sight {
             return;
         }
         let taken = Taken {
-            packet: &Packet::null(),
+            packet: None,
             has_news: true,
         };
         self.look_at_all(stage, taken, watch);
@@ -183,6 +193,7 @@ impl Sight {
             }
         }
         self.cues = CueTracker::new();
+        self.turns = 0;
     }
 
     /// Tells what is amiss with the run as a whole.

@@ -26,8 +26,8 @@ const MOST: usize = 32;
 #[derive(Drop)]
 pub(crate) struct Tracker {
     followed: ArrayVec<Followed, MOST>,
-    /// The switch was at rest.
-    rested: bool,
+    /// The switch's count of turns.
+    turns: u64,
     /// Entry pictures behind edges are told.
     tells_points: bool,
     /// The edges behind which one is still to come.
@@ -131,10 +131,11 @@ impl Default for Tracker {
     }
 }
 
-/// A packet that a switch has taken, and what is known besides.
+/// What a switch has taken, and what is known besides.
 #[derive(Clone, Copy)]
 pub(crate) struct Taken<'a> {
-    pub(crate) packet: &'a Packet,
+    /// Where it was judged.
+    pub(crate) packet: Option<&'a Packet>,
     /// Cues may have come with it or before it.
     pub(crate) has_news: bool,
 }
@@ -146,14 +147,14 @@ impl Tracker {
     {
         Tracker {
             followed: ArrayVec::new(),
-            rested: true,
+            turns: 0,
             tells_points,
             awaited: ArrayVec::new(),
             settled: SwitchReport::new(),
         }
     }
 
-    /// Looks at a switch behind a packet that it took. At rest it looks at no event.
+    /// Looks at a switch behind a packet that it took. It looks at no event where nothing has turned.
     #[inline(always)]
     pub(crate) fn look<W: Watch>(
         &mut self,
@@ -167,17 +168,12 @@ impl Tracker {
             (self.new.settled.not_fitted - self.old.settled.not_fitted)
             (self.new.settled.unconditioned - self.old.settled.unconditioned) watch.new }
     {
-        let rests = switch.rests();
-        if rests && self.rested && !taken.has_news && self.is_still(switch) {
+        let turns = switch.turns();
+        if self.turns == turns && turns < u64::MAX && !taken.has_news && self.awaited.is_empty() {
             return;
         }
-        self.rested = rests;
+        self.turns = turns;
         self.look_closely(switch, library, taken, site, watch);
-    }
-
-    /// No break has come or gone, and no entry picture is awaited.
-    fn is_still(&self, switch: &Switch) -> bool {
-        self.awaited.is_empty() && switch.standing().len() == self.followed.len()
     }
 
     /// Looks at each break.
@@ -205,7 +201,10 @@ impl Tracker {
                 watch,
             );
         }
-        let Some(unit) = Unit::begun(taken.packet, switch.streams()) else {
+        let Some(packet) = taken.packet else {
+            return;
+        };
+        let Some(unit) = Unit::begun(packet, switch.streams()) else {
             return;
         };
         self.turn_all(standing, &unit, site, watch);

@@ -11,6 +11,8 @@ use Rattle.chain_engine.proofs.RunLemmas.{begun}
 use Rattle.chain_engine.proofs.StageLemmas.{runs_all}
 use Rattle.on_air.specs.Plain.{IsSound}
 use Rattle.on_air.specs.AirRuns.{TellsStretches}
+use Rattle.on_air.specs.AirChains.{RanOnAir}
+use Rattle.on_air.proofs.ChainLemmas.{ran-on-air}
 use Rattle.run_events.proofs.air_runs.run_told_on_air.Goals as goal
 
 pub returns-clause-sound : goal.returns-clause-sound
@@ -56,3 +58,25 @@ returns-clause-stretches g c = λ d start before bs h is_held given.
     let same = ap (λ w. w.service.config) (ap (λ s. s.chain.now) c.new-told.ensures.inner ∙ c.new-stage.ensures.chain) ∙ sym ((ap (λ s. s.config.now) c.new-told.ensures.inner ∙ c.new-stage.ensures.config) ∙ c.config-config.ensures) in
     IfOk-weaker c.run_air.result _ _ (λ told w. subst (λ x. TellsStretches told (writing_cues x) bs) config w)
     (c.run_air.ensures.stretches (writing_cues stage.config.now) start before bs (refl, same) (λ kept. (refl, record { begins = here; run = begins })) is_held given)
+
+pub returns-clause-out : goal.returns-clause-out
+returns-clause-out g c = λ d start before bs h is_held given.
+    let stage = c.new-told.result.inner.now in
+    let cfg = stage.chain.now.service.config in
+    let filed = held stage.library.now in
+    let library = ap held (ap (λ s. s.library.now) c.new-told.ensures.inner ∙ c.new-stage.ensures.library) in
+    let here = subst (λ w. ChainStandsFor w w.service.config) (sym (ap (λ s. s.chain.now) c.new-told.ensures.inner ∙ c.new-stage.ensures.chain)) (subst (ChainStandsFor c.args.chain) (sym h.config) h) in
+    let begins = begun g.U.Automation.exchanges g.met.U.Automation.exchanges_refl g.met.U.Automation.exchanges_trans g.U.Automation.failures (ServesFor cfg filed) (reply_in cfg) stage.chain.now.service stage.chain.now.talk
+    (λ steps. chain_sends cfg filed steps ≡ []) stage.automation.now here.talk (here.service filed) refl in
+    let config = ap (λ w. w.service.config) (ap (λ s. s.chain.now) c.new-told.ensures.inner ∙ c.new-stage.ensures.chain) ∙ h.config in
+    let same = ap (λ w. w.service.config) (ap (λ s. s.chain.now) c.new-told.ensures.inner ∙ c.new-stage.ensures.chain) ∙ sym ((ap (λ s. s.config.now) c.new-told.ensures.inner ∙ c.new-stage.ensures.config) ∙ c.config-config.ensures) in
+    let is_out = (λ (qs : List (List ℕ)). g.K.PacketSink.holds c.run_air.new.out start (before ++ qs)) in
+    IfOk-weaker c.run_air.result _ _ (λ told w.
+    let exchanged = (λ (x : g.row.U.Denot). Exchanged g.U.Automation.exchanges g.U.Automation.failures x w.now.inner.now.automation.now) in
+    let all = ran-on-air cfg filed (writing_cues stage.config.now) (ap writing_cues (sym same)) w.now.inner.now.chain.now (exchanged stage.automation.now) bs is_out w.told w.sent w.last told.report w.tells_so w.summed_so w.out in (
+      w.now.inner.now.automation.now,
+      subst (λ x. RanOnAir d (held c.args.library.now) bs is_out (exchanged x) told.report) (ap (λ s. s.automation.now) c.new-told.ensures.inner ∙ c.new-stage.ensures.automation)
+          (subst (λ (v : ℕ → Option Advertisement). RanOnAir d v bs is_out (exchanged stage.automation.now) told.report) library
+          (subst (λ x. RanOnAir x filed bs is_out (exchanged stage.automation.now) told.report) config all)),
+    ))
+    (c.run_air.ensures.out (writing_cues stage.config.now) start before bs (refl, same) tt (λ kept. (refl, record { begins = here; run = begins })) is_held given)

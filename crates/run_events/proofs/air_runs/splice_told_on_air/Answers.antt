@@ -9,6 +9,7 @@ use Rattle.chain_engine.specs.Splices.{Spliced}
 use Rattle.chain_engine.proofs.StageLemmas.{splices_all}
 use Rattle.on_air.specs.Plain.{IsSound}
 use Rattle.on_air.specs.AirRuns.{TellsStretches}
+use Rattle.on_air.specs.AirSplices.{SplicedOnAir}
 use Rattle.run_events.proofs.air_runs.splice_told_on_air.Goals as goal
 
 pub returns-clause-sound : goal.returns-clause-sound
@@ -44,3 +45,24 @@ returns-clause-stretches g c = λ start before bs is_held given.
     let stands = subst (λ w. SwitchStandsFor stage.switch w filed []) (sym config) (subst (λ s. SwitchStandsFor s.switch c.args.config filed []) (sym c.new-told.ensures.inner) (c.new-stage.ensures.switch filed)) in
     IfOk-weaker c.run_air.result _ _ (λ told w. subst (λ x. TellsStretches told (reading_cues x) bs) config w)
     (c.run_air.ensures.stretches (reading_cues stage.config) start before bs refl (λ kept. (refl, record { stands = stands; sent = refl })) is_held given)
+
+pub returns-clause-out : goal.returns-clause-out
+returns-clause-out g c = λ start before bs is_held given.
+    let stage = c.new-told.result.inner.now in
+    let filed = held stage.library.now in
+    let library = ap held (ap (λ s. s.library.now) c.new-told.ensures.inner ∙ c.new-stage.ensures.library) in
+    let config = (ap (λ s. s.config) c.new-told.ensures.inner ∙ c.new-stage.ensures.config) in
+    let stands = subst (λ w. SwitchStandsFor stage.switch w filed []) (sym config) (subst (λ s. SwitchStandsFor s.switch c.args.config filed []) (sym c.new-told.ensures.inner) (c.new-stage.ensures.switch filed)) in
+    let is_out = (λ (qs : List (List ℕ)). g.K.PacketSink.holds c.run_air.new.out start (before ++ qs)) in
+    IfOk-weaker c.run_air.result _ _ (λ told w.
+    let all : SplicedOnAir stage.config filed bs is_out told.report = record {
+      last = w.last;
+      told = w.told;
+      written = subst is_out (sym w.tells_so.sent_so) w.out;
+      told_so = w.tells_so.told_so;
+      last_so = w.tells_so.last_so;
+      counted = w.summed_so;
+    } in
+    subst (λ (v : ℕ → Option Advertisement). SplicedOnAir c.args.config v bs is_out told.report) library
+    (subst (λ x. SplicedOnAir x filed bs is_out told.report) config all))
+    (c.run_air.ensures.out (reading_cues stage.config) start before bs refl tt (λ kept. (refl, record { stands = stands; sent = refl })) is_held given)
