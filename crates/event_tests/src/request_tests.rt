@@ -3,6 +3,11 @@
 use crate::runs::*;
 use crate::stream::Item::*;
 use crate::stream::{AAC, AVC, Item};
+use automations::Sessions;
+use event_logs::{Listening, Telling, Warnings};
+use run_events::Hearing;
+use std::alloc::Global;
+use std::cell::RefCell;
 use std::test::Fail;
 
 /// Two units of a program.
@@ -95,6 +100,50 @@ fn a_bad_size_closes_the_session(rt: HostRuntime) -> Result<(), Fail> {
 {"kind":"end","packet":4}
 "#,
         "warning: a session of the automation was closed by a size that no message has\n",
+    );
+    Ok(())
+}
+
+/// An automation that has ended so many sessions for their sizes.
+#[derive(Drop)]
+struct Closed(u64);
+
+impl Sessions for Closed {
+    ghost closed_so_far = { λ closed. closed.0 };
+
+    fn closed(&self) -> u64 {
+        self.0
+    }
+}
+
+/// The warnings behind a run of such an automation, of which no request was told.
+fn warned_behind(alloc: Global, automation: &Closed) -> Result<Vec<u8>, Fail> {
+    let told: RefCell<Telling<Vec<u8>, Vec<u8>>> = RefCell::new(Telling::new(
+        None,
+        Some(Warnings::new()),
+        None,
+    ));
+    let mut hearing: Hearing<Listening<'_, Vec<u8>, Vec<u8>>> = Hearing {
+        watch: Listening::new(&told),
+        overheard: None,
+    };
+    hearing.tell_closed(automation);
+    drop(hearing);
+    let (_, warnings) = told.into_inner().into_parts();
+    let mut warned = Vec::new(alloc);
+    warnings.ok_or("warnings")?.print(&mut warned);
+    Ok(warned)
+}
+
+#[test]
+fn closed_sessions_are_warned_of_at_the_end(rt: HostRuntime) -> Result<(), Fail> {
+    assert_eq!(rt;
+        warned_behind(rt.alloc(), &Closed(0))?.as_slice(),
+        b"".as_slice()
+    );
+    assert_eq!(rt;
+        warned_behind(rt.alloc(), &Closed(2))?.as_slice(),
+        b"warning: a session of the automation was closed by a size that no message has\n".as_slice(),
     );
     Ok(())
 }
