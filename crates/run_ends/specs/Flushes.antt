@@ -1,13 +1,19 @@
 -- How a writer was flushed, as the answer of its last flush tells, and how often.
-use Rattle.std.specs.Prelude.{◌≡◌, ℕ, ◌+◌, ◌-◌, ◌^◌, ◌<◌, ◌≤◌, Result, Ok, Err}
+use Rattle.std.specs.Prelude.{◌≡◌, ℕ, ◌+◌, ◌-◌, ◌^◌, ◌<◌, ◌≤◌, Bool, true, false, Result, Ok, Err}
 use Rattle.run_ends.specs.declared.attended.LastFlush.{LastFlush}
-use Rattle.run_ends.specs.declared.attended.LastFlush.TheVariants.{Done, Failed}
+use Rattle.run_ends.specs.declared.attended.LastFlush.TheVariants.{Due, Done, Failed}
 use Rattle.run_ends.specs.declared.flushes.Flushes.{Flushes}
 
 -- how a flush went that answered so
 abbrev pub flush_told : {T E : Type 0} → Result T E → LastFlush
 flush_told (Ok x) = Done
 flush_told (Err error) = Failed
+
+-- a flush went well, and nothing was written behind it
+abbrev pub is_done : LastFlush → Bool
+is_done Due = false
+is_done Done = true
+is_done Failed = false
 
 -- those of a writer that was not flushed
 abbrev pub no_flushes : Flushes

@@ -26,7 +26,7 @@ pub struct Attended<D> {
 impl<D> Attended<D> {
     ghost use Rattle.std.specs.Prelude.{◌≡◌, ◌≢◌, None, Some};
     ghost use Rattle.std.specs.IoError.{error_kind};
-    ghost use Rattle.run_ends.specs.Flushes.{no_flushes};
+    ghost use Rattle.run_ends.specs.Flushes.{no_flushes, is_done};
 
     /// The reader or writer as before its first call.
     fn uncalled(inner: D) -> Attended<D>
@@ -65,6 +65,30 @@ impl<D> Attended<D> {
         }
         self.reason = Some(error);
         io::Error::from(kind)
+    }
+
+    /// Whether all that was written is out: the last flush went well, and nothing was written behind it.
+    pub fn is_flushed(&self) -> bool
+        ensures { result ≡ is_done self.now.last_flush }
+    {
+        match self.last_flush {
+            LastFlush::Done => true,
+            LastFlush::Due | LastFlush::Failed => false,
+        }
+    }
+
+    /// The reader or writer that is attended to, and the reason of the last call that failed.
+    pub fn into_parts(self) -> (D, Option<io::Error>)
+        ensures inner { result.0 ≡ self.inner }
+        ensures reason { result.1 ≡ self.reason }
+    {
+        let Attended {
+            inner,
+            reason,
+            last_flush: _,
+            flushes: _,
+        } = self;
+        (inner, reason)
     }
 
     /// The reason of the last call that failed.

@@ -11,4 +11,4 @@ mod flushing;
 
 pub use attended::Attended;
 pub use ends::{End, OpenedEnds, Unopened, create_beside, open_ends, open_input};
-pub use flushing::{finish, finish_buffer};
+pub use flushing::{finish, finish_behind, finish_buffer};
