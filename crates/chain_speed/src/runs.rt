@@ -13,7 +13,7 @@ use command_lines::inject_options::{Asking, InjectOptions};
 use event_logs::{Listening, Telling, Warnings};
 use passages::asking::Asker;
 use passages::fault::{ProgramFault, fault_name};
-use passages::kinds::{Chaining, Cueing, Cutting};
+use passages::kinds::{Chaining, Cueing, Cutting, Unasked};
 use passages::running::{Ran, run_from, with_replies};
 use passages::tell::Stopped;
 use pes_time::Time33;
@@ -157,7 +157,15 @@ fn run_cut(alloc: Global, job: Job) -> Result<Outcome, Fault> {
     let mut packets = PacketDigest::new();
     let network = job.network(alloc)?;
     let passage = Cutting { options: &options };
-    match run_from(alloc, passage, None, false, network, &mut packets) {
+    match run_from(
+        alloc,
+        passage,
+        &mut Unasked,
+        None,
+        false,
+        network,
+        &mut packets,
+    ) {
         Ok(_) => Ok(Outcome {
             report: None,
             packets,
@@ -212,35 +220,34 @@ fn hearing(telling: &Warned) -> Hearing<Listening<'_, Vec<u8>, Vec<u8>>> {
 }
 
 /// Puts cues in as a script asks for them.
-fn cue<I: Read + Drop, W: Write + Drop, O: Write + Drop>(
+fn cue<I: Read + Drop, W: Write + Drop, O: Write>(
     alloc: Global,
     options: &InjectOptions<'_>,
     job: Job,
     input: I,
     replies: W,
-    output: O,
+    output: &mut O,
 ) -> Result<Report, Fault> {
     let mut asker: Asker<W, TcpListener> = Asker::Script(load(alloc, job, replies)?);
     let telling = telling();
     let passage = Cueing {
         alloc,
         options: &*options,
-        asker: &mut asker,
         hearing: &mut hearing(&telling),
     };
-    let ran = run_from(alloc, passage, None, false, input, output);
+    let ran = run_from(alloc, passage, &mut asker, None, false, input, output);
     let Ran { report, seen: _ } = with_replies(ran, asker.has_lost_a_reply())?;
     Ok(report)
 }
 
 /// Plays advertisements as a script asks for them.
-fn play<I: Read + Drop, W: Write + Drop, O: Write + Drop>(
+fn play<I: Read + Drop, W: Write + Drop, O: Write>(
     alloc: Global,
     options: &InjectOptions<'_>,
     job: Job,
     input: I,
     replies: W,
-    output: O,
+    output: &mut O,
 ) -> Result<Report, Fault> {
     let is_live = job.workload == Workload::Awkward;
     let library = library(alloc, job)?;
@@ -249,11 +256,10 @@ fn play<I: Read + Drop, W: Write + Drop, O: Write + Drop>(
     let passage = Chaining {
         alloc,
         options: &*options,
-        asker: &mut asker,
         library: &library,
         hearing: &mut hearing(&telling),
     };
-    let ran = run_from(alloc, passage, None, is_live, input, output);
+    let ran = run_from(alloc, passage, &mut asker, None, is_live, input, output);
     let Ran { report, seen: _ } = with_replies(ran, asker.has_lost_a_reply())?;
     Ok(report)
 }

@@ -8,7 +8,7 @@ use command_lines::splice_options::SpliceOptions;
 use dpi_program::program::program;
 use failing_devices::{Failing, Record, RecordedSource, RecordedTarget};
 use passages::fault::fault_name;
-use passages::kinds::{Cutting, Splicing};
+use passages::kinds::{Cutting, Splicing, Unasked};
 use passages::running::run_from;
 use passages::tell::{Side, Stopped};
 use pes_time::Time33;
@@ -46,7 +46,16 @@ fn cut<R: Read + Drop, O: Write + Drop>(
         is_verbose: false,
     };
     let passage = Cutting { options: &options };
-    match run_from(alloc, passage, None, is_live, input, output) {
+    let mut output = output;
+    match run_from(
+        alloc,
+        passage,
+        &mut Unasked,
+        None,
+        is_live,
+        input,
+        &mut output,
+    ) {
         Ok(_) => Ok(Ok(())),
         Err(stopped) => Ok(Err(stopped)),
     }
@@ -78,7 +87,16 @@ fn splice<R: Read + Drop, O: Write + Drop>(
         library: &library,
         watch: Unheard,
     };
-    match run_from(alloc, passage, None, is_live, input, output) {
+    let mut output = output;
+    match run_from(
+        alloc,
+        passage,
+        &mut Unasked,
+        None,
+        is_live,
+        input,
+        &mut output,
+    ) {
         Ok(_) => Ok(Ok(())),
         Err(stopped) => Ok(Err(stopped)),
     }

@@ -1,8 +1,9 @@
 -- What is flushed at the end of a run is what the run sent; and runs of the chain, where some pieces of messages are spoken of.
-use Rattle.std.specs.Prelude.{Result, Ok, Err, OnOk, IfOk, IfErr, IfSome}
+use Rattle.std.specs.Prelude.{Result, Ok, Err, OnOk, IfOk, IfErr, IfSome, IsOkAnd, IsErrAnd}
+use Rattle.std.specs.declared.io.Error.{Error}
 use Rattle.std.proofs.Common.{◌≡◌, ◌≤◌, ℕ, List, [], ◌++◌, take, length, reverse, Option, None, Some, Bool, true, false, ◌≢◌, ap, sym, subst, arith, ◌∙◌, refl}
 use Rattle.std.proofs.lemmas.List.{append-nil}
-use Rattle.std.specs.Io.KnownBytes.{Keeps, append_known}
+use Rattle.std.specs.Io.KnownBytes.{Keeps, append_known, prepend_known}
 use Rattle.psi_tables.specs.declared.config.Config.{Config}
 use Rattle.ts_packet.specs.declared.sink.PutFault.{PutFault}
 use Rattle.ad_library.specs.Advertisements.{Advertisement}
@@ -33,6 +34,11 @@ use Rattle.run_ends.specs.declared.attended.LastFlush.TheVariants.{Done}
 use Rattle.passages.specs.Runs.{told_fault}
 use Rattle.passages.specs.Stops.{OfAsked}
 use Rattle.passages.specs.declared.fault.ProgramFault.{ProgramFault}
+use Rattle.passages.specs.declared.running.Ran.{Ran}
+use Rattle.passages.specs.declared.tell.Side.{Side}
+use Rattle.passages.specs.declared.tell.Stopped.{Stopped}
+use Rattle.passages.specs.declared.watch.Watch.{Watch}
+use Rattle.passages.specs.Stopping.{IsStoppedWith}
 use Rattle.passages.specs.declared.listening.ListenFault.{ListenFault}
 use Rattle.passages.specs.declared.listening.ListenFault.TheVariants as listen
 
@@ -60,6 +66,30 @@ written_none (Some bs) form e = ap Some (sym (append-nil bs) ∙ ap (λ l. bs ++
 pub buffered_none : (start : Option (List ℕ)) (form : List (List ℕ) → List ℕ) → form [] ≡ [] → IfSome start (λ bs. append_known start [] ≡ Some (bs ++ form []))
 buffered_none None form e = tt
 buffered_none (Some bs) form e = ap (λ l. Some (bs ++ l)) (sym e)
+
+-- nothing was read into the buffer at first
+pub read_none : (left : Option (List ℕ)) → prepend_known [] left ≡ left
+read_none None = refl
+read_none (Some bs) = refl
+
+-- what is told of a run that went through is what its outcome says
+pub told_ok : {T : Type 0} (o : Result T ProgramFault) (r : Result (Ran T) Stopped) (said : T → Type 0) (said_err : ProgramFault → Stopped → Type 0)
+    → IfOk o (λ report. IsOkAnd r (λ ran. ran.report ≡ report)) → IfErr o (λ fault. IsErrAnd r (said_err fault)) → IfOk o said → IfOk r (λ ran. said ran.report)
+told_ok (Ok x) (Ok ran) said said_err e f h = subst said (sym e) h
+told_ok (Ok x) (Err stopped) said said_err e f h = tt
+told_ok (Err fault) (Ok ran) said said_err e f h = absurd f
+told_ok (Err fault) (Err stopped) said said_err e f h = tt
+
+-- and of one that stopped
+pub told_err : {T : Type 0} (o : Result T ProgramFault) (r : Result (Ran T) Stopped) (side : ProgramFault → Side) (reason : ProgramFault → Option Error) (seen : Option Watch)
+    (is_flushed : Bool) (said : ProgramFault → Type 0)
+    → IfOk o (λ report. IsOkAnd r (λ ran. ran.report ≡ report)) → IfErr o (λ fault. IsErrAnd r (IsStoppedWith fault (side fault) (reason fault) seen))
+    → IfErr o (λ fault. IsErrAnd r (λ stopped. stopped.is_flushed ≡ is_flushed))
+    → IfErr o (λ fault. is_flushed ≡ true → said fault) → IfErr r (λ stopped. stopped.is_flushed ≡ true → said stopped.fault)
+told_err (Ok x) (Ok ran) side reason seen is_flushed said e f k h = tt
+told_err (Ok x) (Err stopped) side reason seen is_flushed said e f k h = absurd e
+told_err (Err fault) (Ok ran) side reason seen is_flushed said e f k h = tt
+told_err (Err fault) (Err stopped) side reason seen is_flushed said e f k h = λ is. subst said (sym f.0) (h (sym k ∙ is))
 
 -- what follows from what is said of an answer
 pub if_ok_so : {T E : Type 0} (r : Result T E) (said said' : T → Type 0) → ((x : T) → said x → said' x) → IfOk r said → IfOk r said'

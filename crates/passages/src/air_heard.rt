@@ -7,15 +7,19 @@ use ad_library::AdLibrary;
 use automations::Sessions;
 use chain_engine::{Automation, Chain, Report, RunFault};
 use chain_services::ServiceReport;
-use on_air::{AirReport, AirWatch};
+use on_air::{AirReport, AirWatch, inject_on_air, run_on_air, splice_on_air};
+use psi_tables::Config;
 use run_events::{
     HeardAutomation, Hearing, Watch, inject_told_on_air, run_told_on_air, services_told_on_air,
+    splice_told_on_air,
 };
-use services_on_air::{AirServices, ServicesWatch};
+use services_on_air::{AirServices, ServicesWatch, run_services_on_air};
+use splice_plans::SwitchReport;
 use std::alloc::Allocator;
 use ts_packet::{GatheringSink, PausingPackets};
 
-/// Runs [`inject_told_on_air`], and listens to the automation besides.
+/// Runs [`inject_told_on_air`], and listens to the automation besides where each request is told. Where nothing is told, it is the run
+/// alone.
 ///
 /// # Errors
 ///
@@ -39,11 +43,20 @@ where
     ensures devices { IfErr result IsOfDevices }
 {
     let told = hearing.watch;
-    let mut heard = HeardAutomation::new(automation, hearing);
-    inject_told_on_air(chain, network, &mut heard, out, watch, told)
+    if told.is_detailed() {
+        let mut heard = HeardAutomation::new(automation, hearing);
+        return inject_told_on_air(chain, network, &mut heard, out, watch, told);
+    }
+    if !told.is_on() {
+        return inject_on_air(chain, network, automation, out, watch);
+    }
+    let ended = inject_told_on_air(chain, network, automation, out, watch, told);
+    hearing.tell_closed(&*automation);
+    ended
 }
 
-/// Runs [`run_told_on_air`], and listens to the automation besides.
+/// Runs [`run_told_on_air`], and listens to the automation besides where each request is told. Where nothing is told, it is the run
+/// alone.
 ///
 /// # Errors
 ///
@@ -68,11 +81,20 @@ where
     ensures devices { IfErr result IsOfDevices }
 {
     let told = hearing.watch;
-    let mut heard = HeardAutomation::new(automation, hearing);
-    run_told_on_air(chain, network, &mut heard, library, out, watch, told)
+    if told.is_detailed() {
+        let mut heard = HeardAutomation::new(automation, hearing);
+        return run_told_on_air(chain, network, &mut heard, library, out, watch, told);
+    }
+    if !told.is_on() {
+        return run_on_air(chain, network, automation, library, out, watch);
+    }
+    let ended = run_told_on_air(chain, network, automation, library, out, watch, told);
+    hearing.tell_closed(&*automation);
+    ended
 }
 
-/// Runs [`services_told_on_air`], and listens to the automation besides.
+/// Runs [`services_told_on_air`], and listens to the automation besides where each request is told. Where nothing is told, it is the run
+/// alone.
 ///
 /// # Errors
 ///
@@ -97,6 +119,41 @@ where
     ensures devices { IfErr result IsOfDevices }
 {
     let told = hearing.watch;
-    let mut heard = HeardAutomation::new(automation, hearing);
-    services_told_on_air(services, network, &mut heard, libraries, out, watch, told)
+    if told.is_detailed() {
+        let mut heard = HeardAutomation::new(automation, hearing);
+        return services_told_on_air(services, network, &mut heard, libraries, out, watch, told);
+    }
+    if !told.is_on() {
+        return run_services_on_air(services, network, automation, libraries, out, watch);
+    }
+    let ended = services_told_on_air(services, network, automation, libraries, out, watch, told);
+    hearing.tell_closed(&*automation);
+    ended
+}
+
+/// Runs [`splice_told_on_air`]. Where nothing is told, it is the run alone.
+///
+/// # Errors
+///
+/// As for [`splice_told_on_air`].
+pub(crate) fn splice_heard_on_air<P, K, A, V>(
+    config: Config,
+    network: &mut P,
+    library: &AdLibrary,
+    out: &mut K,
+    watch: &mut A,
+    told: V,
+) -> Result<AirReport<SwitchReport>, RunFault>
+where
+    P: PausingPackets,
+    K: GatheringSink,
+    A: AirWatch,
+    V: Watch + Drop,
+    requires { P.is_broken network.old ≡ false }
+    ensures devices { IfErr result IsOfDevices }
+{
+    if told.is_on() {
+        return splice_told_on_air(config, network, library, out, watch, told);
+    }
+    splice_on_air(config, network, library, out, watch)
 }

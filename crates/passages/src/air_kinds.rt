@@ -1,6 +1,7 @@
 //! The kinds of passages on air: a run with advertisements, one with cues, and one with both, each as its options say; and one of
 //! several services. No fault of the network ends them.
 
+use crate::air_heard::splice_heard_on_air;
 use crate::air_running::AirPassage;
 use crate::asking::{Asker, cue_on_air, play_on_air, serve_on_air};
 use crate::fault::ProgramFault;
@@ -10,7 +11,7 @@ use chain_services::ServiceReport;
 use command_lines::inject_options::InjectOptions;
 use command_lines::splice_options::SpliceOptions;
 use on_air::{AirReport, AirWatch};
-use run_events::{Hearing, Watch, splice_told_on_air};
+use run_events::{Hearing, Watch};
 use services_on_air::{AirServices, ServicesWatch};
 use splice_plans::SwitchReport;
 use std::alloc::Global;
@@ -43,7 +44,7 @@ impl<A: AirWatch, V: Watch + Drop> AirPassage for SplicingOnAir<'_, A, V> {
             watch,
             told,
         } = self;
-        match splice_told_on_air(options.config, network, library, out, watch, told) {
+        match splice_heard_on_air(options.config, network, library, out, watch, told) {
             Ok(report) => Ok(report),
             Err(fault) => Err(ProgramFault::Run(fault)),
         }

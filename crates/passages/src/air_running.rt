@@ -5,7 +5,7 @@ ghost use Rattle.std.specs.Prelude.{◌≡◌, false};
 use crate::fault::ProgramFault;
 use crate::recovery_watch::{RecoveringPackets, RecoveryWatch, ToldPackets};
 use crate::running::{
-    BUFFER_SIZE, Ended, Finished, Passed, Ran, let_go, network_of, out_of_memory,
+    BUFFER_SIZE, Ended, Finished, Passed, Ran, network_of, out_of_memory, take_back,
 };
 use crate::tell::Stopped;
 use crate::watch::Watched;
@@ -84,11 +84,12 @@ fn run_on_air_to<S: AirPassage, P: PausingPackets, O: Write + Drop>(
     let mut writer = PacketWriter::new(&mut target);
     let Passed { outcome, seen } = pass_watched_on_air(passage, watched, network, &mut writer);
     let (outcome, output) = finish_buffer(outcome, target.into_inner(), ProgramFault::Unflushed);
-    Ok(let_go(Finished {
+    let (ended, _) = take_back(Finished {
         outcome,
         output,
         seen,
-    }))
+    });
+    Ok(ended)
 }
 
 /// Runs to a writer, and tells of each read.

@@ -5,27 +5,31 @@ ghost use Rattle.std.specs.Prelude.{◌≡◌, ℕ, List, [], Option, None, true
 ghost use Rattle.ts_packet.specs.Sinks.{Written};
 ghost use Rattle.ts_packet.specs.Transfers.{no_tally};
 ghost use Rattle.passages.specs.Runs.{PassesAll};
+ghost use Rattle.run_ends.specs.Flushes.{is_done};
 ghost use Rattle.run_ends.specs.declared.attended.LastFlush.TheVariants.{Done};
 ghost use Rattle.passages.specs.Stops.{StopsAtDevice};
 ghost use Rattle.passages.specs.Stopping.{side_of, IsStoppedWith, IsStoppedUnopened};
 
 use crate::fault::ProgramFault;
+use crate::gathered::Gathered;
+use crate::lent::{Lent, Loan, Place};
 use crate::tell::{Side, Stopped};
 use crate::watch::{Watch, Watched};
 use chain_engine::RunFault;
 use packet_lines::LinesFault;
 use psi_tables::FeedFault;
-use run_ends::{Attended, Unopened, finish_buffer};
+use run_ends::{Attended, Unopened, finish_behind};
 use std::alloc::{AllocError, Global};
-use std::io::{self, BufReader, BufWriter, Read, Write};
-use ts_packet::{Blocks, Buffered, GatheringSink, PacketReader, PacketWriter, PausingPackets, Pid};
+use std::io::{self, BufReader, Read, Write};
+use std::marker::Brand;
+use ts_packet::{Buffered, GatheringSink, PacketReader, PacketWriter, PausingPackets, Pid};
 use unit_cut::CutFault;
 
 /// How many bytes a file or a stream is read or written at a time.
 pub const BUFFER_SIZE: usize = 262_144;
 
-/// What is done with a network on its way from a source to a sink.
-pub trait Passage: Drop {
+/// What is done with a network on its way from a source to a sink, while `A` asks for it.
+pub trait Passage<A>: Drop {
     ghost use Rattle.std.specs.Prelude.{◌≡◌, ℕ, List, [], Option, false, IfOk, IfErr};
     ghost use Rattle.ts_packet.specs.declared.sink.PutFault.{PutFault};
     ghost use Rattle.packet_runs.specs.Devices.{OfPackets, OfPut, OfSending};
@@ -38,32 +42,34 @@ pub trait Passage: Drop {
     /// What a passage needs that is to be made.
     ghost is_ready: { Self → Type 0 } = { λ p. Unit {0} };
 
-    /// Of a network of these bytes these packets go out, and this is the report.
-    ghost passes: { Self → List ℕ → List (List ℕ) → Self.Report → Type 0 };
+    /// Of a network of these bytes these packets go out, and this is the report, where who asked was so before and is so now.
+    ghost passes: { Self → A → A → List ℕ → List (List ℕ) → Self.Report → Type 0 };
 
-    /// It stopped with this fault: what that says of the network's bytes, where they are known, and of the packets that are out.
-    ghost stops: { Self → ProgramFault → Option (List ℕ) → OfPackets → OfPut → OfSending → Type 0 };
+    /// Likewise it stopped with this fault: what that says of the network's bytes, where they are known, and of the packets that are out.
+    ghost stops: { Self → A → A → ProgramFault → Option (List ℕ) → OfPackets → OfPut → OfSending → Type 0 };
 
     /// What it says is said in any form of what is known of the packets that are out.
-    ghost stops_so: { (passage : Self) (fault : ProgramFault) (input : Option (List ℕ)) (is_out is_out' : OfPackets) (fails fails' : OfPut)
-        (unsent unsent' : OfSending) → ((ps : List (List ℕ)) → is_out ps → is_out' ps)
+    ghost stops_so: { (passage : Self) (before now : A) (fault : ProgramFault) (input : Option (List ℕ)) (is_out is_out' : OfPackets)
+        (fails fails' : OfPut) (unsent unsent' : OfSending) → ((ps : List (List ℕ)) → is_out ps → is_out' ps)
         → ((ps : List (List ℕ)) (p : List ℕ) (f : PutFault) → fails ps p f → fails' ps p f)
         → ((ps : List (List ℕ)) (f : PutFault) → unsent ps f → unsent' ps f)
-        → stops passage fault input is_out fails unsent → stops passage fault input is_out' fails' unsent' };
+        → stops passage before now fault input is_out fails unsent
+        → stops passage before now fault input is_out' fails' unsent' };
 
     /// Passes the network on.
     fn pass<P: PausingPackets, K: GatheringSink>(
         self,
+        asker: &mut A,
         network: &mut P,
         out: &mut K,
     ) -> Result<Self::Report, ProgramFault>
         requires unbroken { P.is_broken network.old ≡ false }
         requires ready { is_ready self }
         ensures done { (start : Option (List ℕ)) → K.holds out.old start []
-            → IfOk result (PassesAll (passes self) (P.left network.old) (K.holds out.new start)) }
+            → IfOk result (PassesAll (passes self asker.old asker.new) (P.left network.old) (K.holds out.new start)) }
         ensures stopped { (start : Option (List ℕ)) → K.holds out.old start []
-            → IfErr result (λ fault. stops self fault (P.left network.old) (K.holds out.new start) (K.fails out.new start)
-            (K.fails_to_send out.new start)) }
+            → IfErr result (λ fault. stops self asker.old asker.new fault (P.left network.old) (K.holds out.new start)
+            (K.fails out.new start) (K.fails_to_send out.new start)) }
         ensures reads { P.leads network.old network.new }
         ensures leads { K.leads out.old out.new };
 }
@@ -76,8 +82,9 @@ pub struct Passed<T> {
 }
 
 /// Passes the network on, and where a PID is to be watched sees what goes by.
-pub fn pass_watched<S: Passage, P: PausingPackets, K: GatheringSink>(
+pub fn pass_watched<A, S: Passage<A>, P: PausingPackets, K: GatheringSink>(
     passage: S,
+    asker: &mut A,
     watched: Option<Pid>,
     network: &mut P,
     out: &mut K,
@@ -85,15 +92,16 @@ pub fn pass_watched<S: Passage, P: PausingPackets, K: GatheringSink>(
     requires unbroken { P.is_broken network.old ≡ false }
     requires ready { S.is_ready passage }
     ensures done { (start : Option (List ℕ)) → K.holds out.old start []
-        → IfOk result.outcome (PassesAll (S.passes passage) (P.left network.old) (K.holds out.new start)) }
+        → IfOk result.outcome (PassesAll (S.passes passage asker.old asker.new) (P.left network.old) (K.holds out.new start)) }
     ensures stopped { (start : Option (List ℕ)) → K.holds out.old start []
-        → IfErr result.outcome (λ fault. S.stops passage fault (P.left network.old) (K.holds out.new start) (K.fails out.new start)
-        (K.fails_to_send out.new start)) }
+        → IfErr result.outcome (λ fault. S.stops passage asker.old asker.new fault (P.left network.old) (K.holds out.new start)
+        (K.fails out.new start) (K.fails_to_send out.new start)) }
+    ensures unwatched { watched ≡ None → result.seen ≡ None }
     ensures reads { P.leads network.old network.new }
     ensures leads { K.leads out.old out.new }
 {
     let Some(pid) = watched else {
-        let outcome = passage.pass(network, out);
+        let outcome = passage.pass(asker, network, out);
         return Passed {
             outcome,
             seen: None,
@@ -101,7 +109,7 @@ pub fn pass_watched<S: Passage, P: PausingPackets, K: GatheringSink>(
     };
     let mut watched_network = Watched::new(network, pid);
     let mut watched_out = Watched::new(out, pid);
-    let outcome = passage.pass(&mut watched_network, &mut watched_out);
+    let outcome = passage.pass(asker, &mut watched_network, &mut watched_out);
     let seen = Some((watched_network.seen(), watched_out.seen()));
     Passed { outcome, seen }
 }
@@ -114,61 +122,100 @@ pub struct Finished<T, O> {
     pub seen: Option<(Watch, Watch)>,
 }
 
-/// Runs to a writer, many packets a write: a block is written where it is full, at the end, and before each read of the network that may
-/// wait.
-fn run_to_blocks<S: Passage, P: PausingPackets, O: Write + Drop>(
-    alloc: Global,
+/// Runs to a writer, many packets a write: a block is written where the buffer is full, at the end, and before each read of the network that
+/// may wait.
+fn run_to_blocks<A, S: Passage<A>, P: PausingPackets, O: Write + Drop>(
     passage: S,
+    asker: &mut A,
     watched: Option<Pid>,
     network: &mut P,
+    buffer: Vec<u8>,
     output: O,
-) -> Result<Finished<S::Report, O>, AllocError>
+) -> Finished<S::Report, O>
     requires unbroken { P.is_broken network.old ≡ false }
     requires ready { S.is_ready passage }
-    ensures done { IfOk result (λ f. IfOk f.outcome (PassesAll (S.passes passage) (P.left network.old)
-        (Written (O.contents f.output.inner) (O.contents output)))) }
-    ensures stopped { IfOk result (λ f. IfErr f.outcome (λ fault. f.output.last_flush ≡ Done
-        → StopsAtDevice (S.stops passage fault) (P.left network.old) (O.contents output) (O.contents f.output.inner))) }
+    requires empty { buffer.items ≡ [] }
+    ensures done { IfOk result.outcome (PassesAll (S.passes passage asker.old asker.new) (P.left network.old)
+        (Written (O.contents result.output.inner) (O.contents output))) }
+    ensures stopped { IfErr result.outcome (λ fault. result.output.last_flush ≡ Done
+        → StopsAtDevice (S.stops passage asker.old asker.new fault) (P.left network.old) (O.contents output)
+        (O.contents result.output.inner)) }
+    ensures unwatched { watched ≡ None → result.seen ≡ None }
 {
-    let Ok(buffer) = BufWriter::with_capacity(alloc, BUFFER_SIZE, Attended::new(output)) else {
-        return Err(AllocError);
-    };
-    let mut target = Blocks::new(buffer);
+    let mut target = Gathered::new(buffer, Attended::new(output));
     let mut writer = PacketWriter::new(&mut target);
-    let Passed { outcome, seen } = pass_watched(passage, watched, network, &mut writer);
-    let (outcome, output) = finish_buffer(outcome, target.into_inner(), ProgramFault::Unflushed);
-    Ok(Finished {
+    let Passed { outcome, seen } = pass_watched(passage, asker, watched, network, &mut writer);
+    let (below, rest) = target.into_parts();
+    let (outcome, output) = finish_behind(outcome, below, rest.as_slice(), ProgramFault::Unflushed);
+    Finished {
         outcome,
         output,
         seen,
-    })
+    }
 }
 
-/// What is left of a run when its output is flushed and gone.
+/// What is left of a run when its output is flushed.
 #[derive(Drop)]
 pub struct Ended<T> {
     pub outcome: Result<T, ProgramFault>,
     /// The reason of the output's last failure.
     pub reason: Option<io::Error>,
+    /// Whether the output was flushed at the end with nothing lost.
+    pub is_flushed: bool,
     pub seen: Option<(Watch, Watch)>,
 }
 
-/// Lets go of the output, but for the reason of its last failure.
-pub fn let_go<T: Drop, O: Drop>(finished: Finished<T, O>) -> Ended<T>
-    ensures outcome { result.outcome ≡ finished.outcome }
-    ensures reason { result.reason ≡ finished.output.reason }
-    ensures seen { result.seen ≡ finished.seen }
+/// Takes the writer back from a run, and tells how that has ended.
+pub fn take_back<T: Drop, O>(finished: Finished<T, O>) -> (Ended<T>, O)
+    ensures outcome { result.0.outcome ≡ finished.outcome }
+    ensures reason { result.0.reason ≡ finished.output.reason }
+    ensures flushed { result.0.is_flushed ≡ is_done finished.output.last_flush }
+    ensures seen { result.0.seen ≡ finished.seen }
+    ensures output { result.1 ≡ finished.output.inner }
 {
     let Finished {
         outcome,
         output,
         seen,
     } = finished;
-    Ended {
+    let is_flushed = output.is_flushed();
+    let (output, reason) = output.into_parts();
+    let ended = Ended {
         outcome,
-        reason: output.into_reason(),
+        reason,
+        is_flushed,
         seen,
-    }
+    };
+    (ended, output)
+}
+
+/// Runs to the writer that `K` names, tells how that has ended, and gives the writer back.
+fn run_to_lent<'a, A, S: Passage<A>, P: PausingPackets, O: Write, K: Place>(
+    passage: S,
+    asker: &mut A,
+    watched: Option<Pid>,
+    network: &mut P,
+    buffer: Vec<u8>,
+    ended: &mut Ended<S::Report>,
+    output: Loan<'a, O>,
+) -> Loan<'a, O>
+    requires unbroken { P.is_broken network.old ≡ false }
+    requires ready { S.is_ready passage }
+    requires empty { buffer.items ≡ [] }
+    requires named { output.at.ghost_name ≡ K.name }
+    ensures same { result.at.ghost_name ≡ output.entry.at.ghost_name }
+    ensures done { IfOk ended.new.outcome (PassesAll (S.passes passage asker.old asker.new) (P.left network.old)
+        (Written (O.contents result.at.now) (O.contents output.entry.at.now))) }
+    ensures stopped { IfErr ended.new.outcome (λ fault. ended.new.is_flushed ≡ true
+        → StopsAtDevice (S.stops passage asker.old asker.new fault) (P.left network.old) (O.contents output.entry.at.now)
+        (O.contents result.at.now)) }
+    ensures unwatched { watched ≡ None → ended.new.seen ≡ None }
+{
+    let lent: Lent<'a, O, K> = Lent::new(output);
+    let finished = run_to_blocks(passage, asker, watched, network, buffer, lent);
+    let (told, lent) = take_back(finished);
+    *ended = told;
+    lent.into_loan()
 }
 
 /// Runs to a writer, many packets a write. Where the network may pause, what one read of it brought goes out by one write before the next
@@ -177,20 +224,37 @@ pub fn let_go<T: Drop, O: Drop>(finished: Finished<T, O>) -> Ended<T>
 /// # Errors
 ///
 /// Where the allocator refused memory. The fault of a run that stopped stands in the outcome.
-pub fn run_to<S: Passage, P: PausingPackets, O: Write + Drop>(
+pub fn run_to<A, S: Passage<A>, P: PausingPackets, O: Write>(
     alloc: Global,
     passage: S,
+    asker: &mut A,
     watched: Option<Pid>,
     network: &mut P,
-    output: O,
+    output: &mut O,
 ) -> Result<Ended<S::Report>, AllocError>
     requires unbroken { P.is_broken network.old ≡ false }
     requires ready { S.is_ready passage }
+    ensures done { IfOk result (λ e. IfOk e.outcome (PassesAll (S.passes passage asker.old asker.new) (P.left network.old)
+        (Written (O.contents output.new) (O.contents output.old)))) }
+    ensures stopped { IfOk result (λ e. IfErr e.outcome (λ fault. e.is_flushed ≡ true
+        → StopsAtDevice (S.stops passage asker.old asker.new fault) (P.left network.old) (O.contents output.old)
+        (O.contents output.new))) }
+    ensures unwatched { IfOk result (λ e. watched ≡ None → e.seen ≡ None) }
 {
-    match run_to_blocks(alloc, passage, watched, network, output) {
-        Ok(finished) => Ok(let_go(finished)),
-        Err(error) => Err(error),
-    }
+    let Ok(buffer) = Vec::with_capacity(alloc, BUFFER_SIZE) else {
+        return Err(AllocError);
+    };
+    let mut ended = Ended::unrun();
+    let _ = run_to_lent::<A, S, P, O, Brand>(
+        passage,
+        asker,
+        watched,
+        network,
+        buffer,
+        &mut ended,
+        Loan { at: output },
+    );
+    Ok(ended)
 }
 
 /// A run that went through.
@@ -217,6 +281,17 @@ impl<T: Drop> Ended<T> {
     ghost use Rattle.std.specs.Prelude.{◌≡◌, IfOk, IfErr, IsOkAnd, IsErrAnd, option_map};
     ghost use Rattle.passages.specs.Stopping.{side_of, reason_at, IsStoppedWith};
 
+    /// What is left of a run for which there was no memory.
+    pub(crate) fn unrun() -> Ended<T> {
+        let is_flushed = false;
+        Ended {
+            outcome: Err(ProgramFault::OutOfMemory),
+            reason: None,
+            is_flushed,
+            seen: None,
+        }
+    }
+
     /// What the run tells, whose network's device gave this reason for its last failure.
     ///
     /// # Errors
@@ -227,10 +302,12 @@ impl<T: Drop> Ended<T> {
         ensures seen { IfOk self.outcome (λ _. IsOkAnd result (λ ran. ran.seen ≡ self.seen)) }
         ensures fault { IfErr self.outcome (λ fault. IsErrAnd result (IsStoppedWith fault (side_of fault)
             (reason_at (side_of fault) reading self.reason) (option_map (λ seen. seen.0) self.seen))) }
+        ensures flushed { IfErr self.outcome (λ _. IsErrAnd result (λ stopped. stopped.is_flushed ≡ self.is_flushed)) }
     {
         let Ended {
             outcome,
             reason,
+            is_flushed,
             seen,
         } = self;
         let fault = match outcome {
@@ -247,6 +324,7 @@ impl<T: Drop> Ended<T> {
                 _ => None,
             },
             read: seen.map(|(read, _)| read),
+            is_flushed,
             line: None,
             about: None,
         })
@@ -273,22 +351,29 @@ pub fn network_of<R: Read>(reader: BufReader<R>, is_live: bool) -> Buffered<R>
 ///
 /// `OutOfMemory` where the allocator refused memory for a buffer; else the fault of the passage, where it stopped; else `Unflushed`
 /// where the output could not be flushed at the end.
-pub fn run_from<S: Passage, R: Read + Drop, O: Write + Drop>(
+pub fn run_from<A, S: Passage<A>, R: Read + Drop, O: Write>(
     alloc: Global,
     passage: S,
+    asker: &mut A,
     watched: Option<Pid>,
     is_live: bool,
     input: R,
-    output: O,
+    output: &mut O,
 ) -> Result<Ran<S::Report>, Stopped>
     requires { S.is_ready passage }
+    ensures done { IfOk result (λ ran. PassesAll (S.passes passage asker.old asker.new) (R.remaining input)
+        (Written (O.contents output.new) (O.contents output.old)) ran.report) }
+    ensures stopped { IfErr result (λ stopped. stopped.is_flushed ≡ true
+        → StopsAtDevice (S.stops passage asker.old asker.new stopped.fault) (R.remaining input) (O.contents output.old)
+        (O.contents output.new)) }
+    ensures unwatched { IfOk result (λ ran. watched ≡ None → ran.seen ≡ None) }
 {
     let Ok(reader) = BufReader::with_capacity(alloc, BUFFER_SIZE, Attended::new(input)) else {
         return Err(out_of_memory());
     };
     let mut network = network_of(reader, is_live);
     let mut packets = PacketReader::new(&mut network);
-    let Ok(ended) = run_to(alloc, passage, watched, &mut packets, output) else {
+    let Ok(ended) = run_to(alloc, passage, asker, watched, &mut packets, output) else {
         return Err(out_of_memory());
     };
     let reading = network.into_inner().into_inner().into_reason();
@@ -297,13 +382,15 @@ pub fn run_from<S: Passage, R: Read + Drop, O: Write + Drop>(
 
 /// A run that stopped so, with nothing read of its network.
 pub fn stopped(fault: ProgramFault, side: Side, reason: Option<io::Error>) -> Stopped
-    ensures { IsStoppedWith fault side reason None result }
+    ensures with { IsStoppedWith fault side reason None result }
+    ensures unflushed { result.is_flushed ≡ false }
 {
     Stopped {
         fault,
         side,
         reason,
         read: None,
+        is_flushed: false,
         line: None,
         about: None,
     }
@@ -332,7 +419,8 @@ pub fn with_replies<T: Drop>(
 
 /// Memory was refused.
 pub fn out_of_memory() -> Stopped
-    ensures { IsStoppedWith ProgramFault.OutOfMemory Side.Reading None None result }
+    ensures with { IsStoppedWith ProgramFault.OutOfMemory Side.Reading None None result }
+    ensures unflushed { result.is_flushed ≡ false }
 {
     stopped(ProgramFault::OutOfMemory, Side::Reading, None)
 }

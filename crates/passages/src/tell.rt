@@ -63,6 +63,8 @@ pub struct Stopped {
     pub reason: Option<io::Error>,
     /// What was read until then, where that was watched.
     pub read: Option<Watch>,
+    /// Whether the output was flushed behind the fault with nothing lost, so that all that the run has sent is out.
+    pub is_flushed: bool,
     /// The line of the script or of the list in which the fault stands, from 1.
     pub line: Option<usize>,
     /// What more is known of that line.

@@ -1,0 +1,15 @@
+use Rattle.passages.proofs.PassageLemmas.{asked_told}
+use Rattle.passages.proofs.kinds.CueingPassageAsker.pass.Goals.{in-Ok-cue, in-Err}
+use Rattle.passages.proofs.kinds.CueingPassageAsker.pass.Goals as goal
+
+pub returns-clause-done : goal.returns-clause-done
+returns-clause-done g c = λ start is_held. elim c.match-cue.branch [
+  | in-Ok-cue w ↦ rw w.result-is (w.in-Ok-cue.ensures.done c.args.self.options.now.config start c.in-Ok.ensures is_held)
+  | in-Err w ↦ rw w.result-is tt
+]
+
+pub returns-clause-stopped : goal.returns-clause-stopped
+returns-clause-stopped g c = λ start is_held. elim c.match-cue.branch [
+  | in-Ok-cue w ↦ rw w.result-is tt
+  | in-Err w ↦ rw (w.result-is, w.told_fault.ensures) (asked_told w.in-Err.fault _ _ (w.in-Err.ensures.stop c.args.self.options.now.config start c.in-Ok.ensures is_held))
+]
