@@ -5,11 +5,9 @@ ghost use Rattle.std.specs.Prelude.{◌≡◌, false};
 use command_lines::command::CutOptions;
 use packet_lines::{LineReader, LinesFault};
 use passages::fault::ProgramFault;
-use passages::kinds::Cutting;
+use passages::kinds::{Cutting, Unasked};
 use passages::line_runs::run_to_lines;
-use passages::running::{
-    BUFFER_SIZE, Ended, Ran, let_go, network_of, out_of_memory, run_to, unopened,
-};
+use passages::running::{BUFFER_SIZE, Ended, Ran, network_of, out_of_memory, run_to, unopened};
 use passages::tell::{Account, Stopped};
 use run_ends::{Attended, End, OpenedEnds, open_ends};
 use std::alloc::{AllocError, Global};
@@ -29,13 +27,14 @@ fn cut_to<P: PausingPackets, F: Write + Drop, O: Write>(
 {
     let passage = Cutting { options };
     let watched = options.is_verbose.then_some(options.pid);
-    if let Some(file) = file {
-        return run_to(alloc, passage, watched, network, file);
+    let asker = &mut Unasked;
+    if let Some(mut file) = file {
+        return run_to(alloc, passage, asker, watched, network, &mut file);
     }
     if options.output == End::Lines {
-        return Ok(let_go(run_to_lines(alloc, passage, watched, network, output)?));
+        return run_to_lines(alloc, passage, asker, watched, network, output);
     }
-    run_to(alloc, passage, watched, network, output)
+    run_to(alloc, passage, asker, watched, network, output)
 }
 
 /// Cuts from bytes. Where the input is live it may pause, and what came in goes out before that.
@@ -89,11 +88,13 @@ fn cut_from_lines<R: Read + Drop, F: Write + Drop, O: Write>(
     let Ended {
         outcome,
         reason,
+        is_flushed,
         seen,
     } = ended;
     let ended = Ended {
         outcome: outcome.map_err(of_lines),
         reason,
+        is_flushed,
         seen,
     };
     ended.told(reading)

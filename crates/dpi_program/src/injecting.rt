@@ -1,5 +1,10 @@
 //! The subcommands `inject` and `run`: a run with cues, or with cues and advertisements, between the ends that its options name.
 
+ghost use Rattle.std.specs.Prelude.{◌≡◌, false, IfOk};
+ghost use Rattle.ts_packet.specs.Sinks.{Written};
+ghost use Rattle.passages.specs.Runs.{AskerTells};
+ghost use Rattle.dpi_program.specs.Runs.{Injects};
+
 use crate::counting::air_counts;
 use crate::ends::{LogEnd, open_log, open_network, open_output};
 use crate::sharing::Sharing;
@@ -17,8 +22,9 @@ use passages::air_log::AirLog;
 use passages::air_running::run_on_air_from;
 use passages::air_telling::{AirTeller, TellingInTurn};
 use passages::asking::Asker;
+use passages::chaining::run_chain_from;
 use passages::fault::ProgramFault;
-use passages::kinds::{Chaining, Cueing};
+use passages::kinds::Cueing;
 use passages::recovery_watch::RecoveryWatch;
 use passages::running::{Ran, run_from, stopped, with_replies};
 use passages::tell::{CueAccount, LineAbout, Side, Stopped};
@@ -55,7 +61,9 @@ fn injected_with(
     report: Report,
     air: Option<AirCounts>,
     seen: Option<(Watch, Watch)>,
-) -> Injected {
+) -> Injected
+    ensures { result.report ≡ report }
+{
     let plays = options.adverts.is_some();
     let account = match seen {
         Some((read, written)) => Some(CueAccount {
@@ -84,36 +92,32 @@ fn run_asked<R, O, W, L, H>(
     asker: &mut Asker<W, L>,
     library: Option<AdLibrary>,
     hearing: &mut Hearing<H>,
-    output: O,
+    output: &mut O,
 ) -> Result<Injected, Stopped>
 where
     R: Read + Drop,
-    O: Write + Drop,
+    O: Write,
     W: Write + Drop,
     L: OpenListener + Drop,
     L::Stream: OpenStream + Read + Write + Drop,
     H: run_events::Watch + Copy + Drop,
+    ensures done { IfOk result (λ injected. Injects options.now.config library (R.remaining input)
+        (Written (O.contents output.new) (O.contents output.old)) (AskerTells W.contents asker.old asker.new) injected.report) }
 {
     let watched = options.is_verbose.then_some(options.config.cue_pid);
     let ran = match &library {
         Some(library) => {
-            let passage = Chaining {
-                alloc,
-                options: &*options,
-                asker: &mut *asker,
-                library,
-                hearing,
-            };
-            run_from(alloc, passage, watched, is_live, input, output)
+            run_chain_from(
+                alloc, options, asker, library, hearing, watched, is_live, input, output,
+            )
         }
         None => {
             let passage = Cueing {
                 alloc,
                 options: &*options,
-                asker: &mut *asker,
                 hearing,
             };
-            run_from(alloc, passage, watched, is_live, input, output)
+            run_from(alloc, passage, asker, watched, is_live, input, output)
         }
     };
     let Ran { report, seen } = with_replies(ran, asker.has_lost_a_reply())?;
@@ -182,17 +186,19 @@ fn inject_from<R, O, W, L, T, X, E>(
     library: Option<AdLibrary>,
     told: Option<T>,
     hearing: &mut Hearing<Listening<'_, X, E>>,
-    output: O,
+    output: &mut O,
 ) -> Result<Injected, Stopped>
 where
     R: Read + Drop,
-    O: Write + Drop,
+    O: Write,
     W: Write + Drop,
     L: OpenListener + Drop,
     L::Stream: OpenStream + Read + Write + Drop,
     T: Write + Drop,
     X: Write,
     E: Write,
+    ensures done { options.now.is_on_air ≡ false → IfOk result (λ injected. Injects options.now.config library (R.remaining input)
+        (Written (O.contents output.new) (O.contents output.old)) (AskerTells W.contents asker.old asker.new) injected.report) }
 {
     if !options.is_on_air {
         return run_asked(
@@ -292,12 +298,12 @@ fn run_ends<F, I, O, W, L, T, X, E>(
     input: &mut I,
     told: Option<T>,
     telling: RefCell<Telling<X, E>>,
-    output: O,
+    output: &mut O,
 ) -> Result<Injected, Stopped>
 where
     F: Read + Drop,
     I: Read,
-    O: Write + Drop,
+    O: Write,
     W: Write + Drop,
     L: OpenListener + Drop,
     L::Stream: OpenStream + Read + Write + Drop,
@@ -375,7 +381,7 @@ where
     let telling = telling_of(end, options.is_quiet, alarm);
     let others = [about, script.as_ref(), list.as_ref(), logged.as_ref()];
     let opened = open_output(rt, options.output, standard, &others);
-    let output = tell_fault(&telling, opened)?;
+    let mut output = tell_fault(&telling, opened)?;
     let told = (options.is_on_air && options.is_verbose).then_some(faults);
     let opened = Opened {
         is_live: network.is_live(),
@@ -383,7 +389,15 @@ where
         asker,
         library,
     };
-    run_ends(rt.alloc(), options, opened, input, told, telling, output)
+    run_ends(
+        rt.alloc(),
+        options,
+        opened,
+        input,
+        told,
+        telling,
+        &mut output,
+    )
 }
 
 /// Runs the subcommand `inject`, or `run` where the options name advertisements: the network is opened first, then the script or the port,

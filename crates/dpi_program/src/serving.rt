@@ -1,7 +1,10 @@
 //! The subcommand `services`: a run of several services between the ends that its options name, and what it tells.
 
 ghost use Rattle.std.specs.Prelude.{IfOk};
+ghost use Rattle.ts_packet.specs.Sinks.{Written};
 ghost use Rattle.service_lists.specs.Lists.{AreReady};
+ghost use Rattle.chain_services.specs.Runs.{terms_by};
+ghost use Rattle.passages.specs.Runs.{PassesAll, Serves, AskerTells};
 
 use crate::counting::air_counts;
 use crate::ends::{LogEnd, open_log, open_network, open_output};
@@ -71,6 +74,7 @@ fn unserved(unloaded: Unloaded, reading: Option<io::Error>) -> Stopped {
             reason
         },
         read: None,
+        is_flushed: false,
         line,
         about: match adverts_line {
             Some(line) => Some(LineAbout::Adverts(line)),
@@ -129,16 +133,19 @@ fn run_plainly<R, O, W, L, H>(
     asker: &mut Asker<W, L>,
     list: ServiceList,
     hearing: &mut Hearing<H>,
-    output: O,
+    output: &mut O,
 ) -> Result<Served, Stopped>
 where
     R: Read + Drop,
-    O: Write + Drop,
+    O: Write,
     W: Write + Drop,
     L: OpenListener + Drop,
     L::Stream: OpenStream + Read + Write + Drop,
     H: Watch + Copy + Drop,
     requires { AreReady list }
+    ensures done { IfOk result (λ served. PassesAll
+        (Serves (terms_by list.configs.items list.libraries.items) (AskerTells W.contents asker.old asker.new)) (R.remaining input)
+        (Written (O.contents output.new) (O.contents output.old)) served.report) }
 {
     let ServiceList {
         configs,
@@ -149,11 +156,10 @@ where
     let passage = Serving {
         configs: configs.as_slice(),
         services,
-        asker: &mut *asker,
         libraries: libraries.as_slice(),
         hearing,
     };
-    let ran = run_from(alloc, passage, watched, is_live, input, output);
+    let ran = run_from(alloc, passage, asker, watched, is_live, input, output);
     let Ran { report, seen } = with_replies(ran, asker.has_lost_a_reply())?;
     Ok(Served {
         report,
@@ -217,11 +223,11 @@ fn run_services_from<R, O, W, L, T, X, E>(
     on_air: Option<AirServices>,
     told: Option<T>,
     hearing: &mut Hearing<Listening<'_, X, E>>,
-    output: O,
+    output: &mut O,
 ) -> Result<Served, Stopped>
 where
     R: Read + Drop,
-    O: Write + Drop,
+    O: Write,
     W: Write + Drop,
     L: OpenListener + Drop,
     L::Stream: OpenStream + Read + Write + Drop,
@@ -291,12 +297,12 @@ fn run_ends<F, I, O, W, L, T, X, E>(
     input: &mut I,
     told: Option<T>,
     telling: RefCell<Telling<X, E>>,
-    output: O,
+    output: &mut O,
 ) -> Result<Served, Stopped>
 where
     F: Read + Drop,
     I: Read,
-    O: Write + Drop,
+    O: Write,
     W: Write + Drop,
     L: OpenListener + Drop,
     L::Stream: OpenStream + Read + Write + Drop,
@@ -375,7 +381,7 @@ where
     let telling = telling_of(end, options.is_quiet, alarm);
     let others = [about, script.as_ref(), listed.as_ref(), logged.as_ref()];
     let opened = open_output(rt, options.output, standard, &others);
-    let output = tell_fault(&telling, opened)?;
+    let mut output = tell_fault(&telling, opened)?;
     let told = (options.is_on_air && options.is_verbose).then_some(faults);
     let opened = Opened {
         is_live: network.is_live(),
@@ -384,7 +390,7 @@ where
         list,
         on_air,
     };
-    run_ends(alloc, options, opened, input, told, telling, output)
+    run_ends(alloc, options, opened, input, told, telling, &mut output)
 }
 
 /// Runs the subcommand `services`: the network is opened first, then the script or the port, then the list is loaded line by line, with all

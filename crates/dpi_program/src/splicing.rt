@@ -1,7 +1,12 @@
 //! The subcommand `splice`: a run with advertisements between the ends that its options name, and what it tells.
 
-ghost use Rattle.std.specs.Prelude.{◌≡◌, Some, true};
+ghost use Rattle.std.specs.Prelude.{◌≡◌, Some, true, false, IfOk, IfErr};
+ghost use Rattle.ts_packet.specs.Sinks.{Written};
+ghost use Rattle.ad_library.specs.Library.{held};
 ghost use Rattle.ad_lists.specs.Lists.{is_at_line};
+ghost use Rattle.passages.specs.Runs.{PassesAll, Splices};
+ghost use Rattle.passages.specs.Stops.{SplicingStops, StopsAtDevice};
+ghost use Rattle.dpi_program.specs.Runs.{known_from};
 
 use crate::counting::air_counts;
 use crate::ends::{LogEnd, open_log, open_network, open_output};
@@ -17,7 +22,7 @@ use passages::air_log::AirLog;
 use passages::air_running::run_on_air_from;
 use passages::air_telling::{AirTeller, TellingInTurn};
 use passages::fault::ProgramFault;
-use passages::kinds::Splicing;
+use passages::kinds::{Splicing, Unasked};
 use passages::recovery_watch::RecoveryWatch;
 use passages::running::{Ran, run_from, stopped};
 use passages::tell::{LineAbout, Side, Stopped};
@@ -149,14 +154,20 @@ fn splice_from<R, T, W, E, O>(
     library: &AdLibrary,
     told: Option<T>,
     listening: Listening<'_, W, E>,
-    output: O,
+    output: &mut O,
 ) -> Result<Spliced, Stopped>
 where
     R: Read + Drop,
     T: Write + Drop,
     W: Write,
     E: Write,
-    O: Write + Drop,
+    O: Write,
+    ensures done { options.now.is_on_air ≡ false → IfOk result (λ spliced. PassesAll
+        (Splices options.now.config (held library.now)) (R.remaining input) (Written (O.contents output.new) (O.contents output.old))
+        spliced.report) }
+    ensures stopped { options.now.is_on_air ≡ false → IfErr result (λ stopped. stopped.is_flushed ≡ true
+        → StopsAtDevice (SplicingStops options.now.config (held library.now) stopped.fault) (R.remaining input)
+        (O.contents output.old) (O.contents output.new)) }
 {
     if options.is_on_air {
         return match told {
@@ -182,7 +193,15 @@ where
         library,
         watch: listening,
     };
-    let Ran { report, seen } = run_from(alloc, passage, watched, is_live, input, output)?;
+    let Ran { report, seen } = run_from(
+        alloc,
+        passage,
+        &mut Unasked,
+        watched,
+        is_live,
+        input,
+        output,
+    )?;
     Ok(Spliced {
         report,
         air: None,
@@ -208,7 +227,7 @@ fn run_ends<F, I, T, W, E, O>(
     input: &mut I,
     told: Option<T>,
     telling: RefCell<Telling<W, E>>,
-    output: O,
+    output: &mut O,
 ) -> Result<Spliced, Stopped>
 where
     F: Read + Drop,
@@ -216,7 +235,10 @@ where
     T: Write + Drop,
     W: Write + Drop,
     E: Write + Drop,
-    O: Write + Drop,
+    O: Write,
+    ensures done { options.now.is_on_air ≡ false → IfOk result (λ spliced. PassesAll
+        (Splices options.now.config (held opened.library)) (known_from F.remaining opened.network (I.remaining input.old))
+        (Written (O.contents output.new) (O.contents output.old)) spliced.report) }
 {
     let Opened {
         network,
@@ -268,14 +290,22 @@ where
     let telling = telling_of(end, options.is_quiet, alarm);
     let others = [about, list.as_ref(), logged.as_ref()];
     let opened = open_output(rt, options.output, standard, &others);
-    let output = tell_fault(&telling, opened)?;
+    let mut output = tell_fault(&telling, opened)?;
     let told = options.is_verbose.then_some(faults);
     let opened = Opened {
         is_live: network.is_live(),
         network: network.file,
         library,
     };
-    run_ends(rt.alloc(), options, opened, input, told, telling, output)
+    run_ends(
+        rt.alloc(),
+        options,
+        opened,
+        input,
+        told,
+        telling,
+        &mut output,
+    )
 }
 
 /// Runs the subcommand `splice`: the network is opened first, then the list is loaded with all its advertisements, then the log and then the
