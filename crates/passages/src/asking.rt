@@ -65,6 +65,7 @@ impl<W, L> Asker<W, L> {
 ///
 /// `Accept` where the messages come from a port, and no connection was accepted, or it could not be set not to block, or its handle not be
 /// copied: the network and the output are as they were then. `Run` as for [`run_events::inject_told`].
+#[inline(always)]
 pub fn cue<P, K, W, L, V>(
     chain: Chain,
     network: &mut P,
@@ -115,6 +116,7 @@ where
 /// # Errors
 ///
 /// `Accept` as for [`cue`], and `Run` as for [`run_events::run_told`].
+#[inline(always)]
 pub fn play<P, K, W, L, V>(
     chain: Chain,
     network: &mut P,
@@ -236,6 +238,7 @@ where
 /// # Errors
 ///
 /// `Accept` as for [`cue`], and `Run` as for [`run_events::services_told`].
+#[inline(always)]
 pub fn serve<P, K, W, L, V>(
     services: Services,
     network: &mut P,

@@ -29,6 +29,7 @@ use ts_packet::{GatheringSink, PausingPackets, ReadFault};
 /// # Errors
 ///
 /// As for [`inject_told`].
+#[inline(always)]
 pub(crate) fn inject_heard<
     M: Allocator,
     P: PausingPackets,
@@ -78,6 +79,7 @@ pub(crate) fn inject_heard<
 /// # Errors
 ///
 /// As for [`run_told`].
+#[inline(always)]
 pub(crate) fn run_heard<
     M: Allocator,
     P: PausingPackets,
@@ -128,6 +130,7 @@ pub(crate) fn run_heard<
 /// # Errors
 ///
 /// As for [`services_told`].
+#[inline(always)]
 pub(crate) fn services_heard<
     M: Allocator,
     P: PausingPackets,
@@ -179,6 +182,7 @@ pub(crate) fn services_heard<
 /// # Errors
 ///
 /// As for [`splice_told`].
+#[inline(always)]
 pub(crate) fn splice_heard<P: PausingPackets, K: GatheringSink, V: Watch + Drop>(
     config: Config,
     network: &mut P,

@@ -45,6 +45,7 @@ impl Passage<Unasked> for Cutting<'_> {
     ghost stops_so = { λ p before now fault input a a' b b' c c' one two three h. cut-stops-so a a' b b' c c' one two three
         p.options.now.pid p.options.now.from p.options.now.length fault input h };
 
+    #[inline(always)]
     fn pass<P: PausingPackets, K: GatheringSink>(
         self,
         _asker: &mut Unasked,
@@ -84,6 +85,7 @@ impl<V: Watch + Drop> Passage<Unasked> for Splicing<'_, V> {
     ghost stops_so = { λ p before now fault input a a' b b' c c' one two three h. splicing-stops-so a a' b b' c c' one two three
         p.options.now.config (held p.library.now) fault input h };
 
+    #[inline(always)]
     fn pass<P: PausingPackets, K: GatheringSink>(
         self,
         _asker: &mut Unasked,
@@ -131,6 +133,7 @@ where
     ghost stops_so = { λ p before now fault input a a' b b' c c' one two three h. cues-stop-so a a' b b' c c' one two three
         (AskerTells W.contents before now) p.options.now.config fault input h };
 
+    #[inline(always)]
     fn pass<P: PausingPackets, K: GatheringSink>(
         self,
         asker: &mut Asker<W, L>,
@@ -184,6 +187,7 @@ where
     ghost stops_so = { λ p before now fault input a a' b b' c c' one two three h. plays-stop-so a a' b b' c c' one two three
         (AskerTells W.contents before now) p.options.now.config (held p.library.now) fault input h };
 
+    #[inline(always)]
     fn pass<P: PausingPackets, K: GatheringSink>(
         self,
         asker: &mut Asker<W, L>,
@@ -243,6 +247,7 @@ where
     ghost stops_so = { λ p before now fault input a a' b b' c c' one two three h. serves-stop-so a a' b b' c c' one two three
         (AskerTells W.contents before now) (terms_by p.configs.now p.libraries.now) fault input h };
 
+    #[inline(always)]
     fn pass<P: PausingPackets, K: GatheringSink>(
         self,
         asker: &mut Asker<W, L>,

@@ -82,6 +82,7 @@ pub struct Passed<T> {
 }
 
 /// Passes the network on, and where a PID is to be watched sees what goes by.
+#[inline(always)]
 pub fn pass_watched<A, S: Passage<A>, P: PausingPackets, K: GatheringSink>(
     passage: S,
     asker: &mut A,
@@ -124,6 +125,7 @@ pub struct Finished<T, O> {
 
 /// Runs to a writer, many packets a write: a block is written where the buffer is full, at the end, and before each read of the network that
 /// may wait.
+#[inline(always)]
 fn run_to_blocks<A, S: Passage<A>, P: PausingPackets, O: Write + Drop>(
     passage: S,
     asker: &mut A,
@@ -190,6 +192,7 @@ pub fn take_back<T: Drop, O>(finished: Finished<T, O>) -> (Ended<T>, O)
 }
 
 /// Runs to the writer that `K` names, tells how that has ended, and gives the writer back.
+#[inline(always)]
 fn run_to_lent<'a, A, S: Passage<A>, P: PausingPackets, O: Write, K: Place>(
     passage: S,
     asker: &mut A,
@@ -224,6 +227,7 @@ fn run_to_lent<'a, A, S: Passage<A>, P: PausingPackets, O: Write, K: Place>(
 /// # Errors
 ///
 /// Where the allocator refused memory. The fault of a run that stopped stands in the outcome.
+#[inline(always)]
 pub fn run_to<A, S: Passage<A>, P: PausingPackets, O: Write>(
     alloc: Global,
     passage: S,
