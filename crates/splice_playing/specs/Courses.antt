@@ -1,5 +1,5 @@
 -- How far the events have come, and how their changes are counted.
-use Rattle.std.specs.Prelude.{◌≡◌, ℕ, ◌+◌, ◌≤◌, ◌<◌, ◌^◌, List, map, Bool}
+use Rattle.std.specs.Prelude.{◌≡◌, ◌+◌, ◌≤◌, ◌<◌, ◌^◌, List, map, Bool}
 use Rattle.event_table.specs.Tables.{events_of}
 use Rattle.splice_plans.specs.declared.plan.Stage.{Stage}
 use Rattle.splice_plans.specs.declared.plan.Part.{Part}

@@ -6,3 +6,6 @@ pub mod Forgetting
 pub mod Leaving
 pub mod Dues
 pub mod Courses
+pub mod Puts
+pub mod Turns
+pub mod Running

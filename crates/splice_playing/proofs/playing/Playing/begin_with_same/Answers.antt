@@ -83,19 +83,19 @@ returns-in-None-clause-plays g c = λ k p past counted f i.
     let around = near k filed listed n c.args.time.now c.args.high.now p past i in
     let closing = closing-is k filed listed n c.args.time.now c.args.high.now p past i stands.within of.0 of.1 counted (values_of old) f.plans in
     let turn = c.in-Ok.ensures in
-    let planned = turn.plans of.0 (high_at k past) es of.1 stands around ∙ closed-are k filed listed n c.args.time.now c.args.high.now p past i stands.within of.0 of.1 counted (values_of old) f.plans in
-    let between = counts-between k filed listed n c.args.time.now c.args.high.now p past i stands.within of.0 of.1 counted c.args.self.now.streams c.turn.new.self.streams turn.others (all-count k past c.args.self.now.streams (inside_at k past (behind_at k past)) counted f.streams)
-    (λ t t_is. subst (λ qs. Counts t.counter (put_in qs steps)) closing (turn.counted of.0 (high_at k past) es s.0 t steps of.1 stands around s.1 t_is counts)) in
-    let left : (t : SwitchedStream) → t ≡ slice_index_or c.turn.new.self.streams (n % 8) t → t.is_leaving ≡ inside_at k past (p ∷ behind_at k past) i.pid = λ t t_is. turn.leaving (high_at k past) es s.0 t stands s.1 t_is ∙ left-is k filed listed n c.args.time.now c.args.high.now p past i stands.within of.0 of.1 counted c.args.self.now.streams size f.streams s.0 s.1 (values_of c.turn.new.self.events.obeyed.table) planned in
+    let planned = turn.closes.plans of.0 (high_at k past) es of.1 stands around ∙ closed-are k filed listed n c.args.time.now c.args.high.now p past i stands.within of.0 of.1 counted (values_of old) f.plans in
+    let between = counts-between k filed listed n c.args.time.now c.args.high.now p past i stands.within of.0 of.1 counted c.args.self.now.streams c.turn.new.self.streams turn.frame.others (all-count k past c.args.self.now.streams (inside_at k past (behind_at k past)) counted f.streams)
+    (λ t t_is. subst (λ qs. Counts t.counter (put_in qs steps)) closing (turn.closes.counted of.0 (high_at k past) es s.0 t steps of.1 stands around s.1 t_is counts)) in
+    let left : (t : SwitchedStream) → t ≡ slice_index_or c.turn.new.self.streams (n % 8) t → t.is_leaving ≡ inside_at k past (p ∷ behind_at k past) i.pid = λ t t_is. turn.closes.leaving (high_at k past) es s.0 t stands s.1 t_is ∙ left-is k filed listed n c.args.time.now c.args.high.now p past i stands.within of.0 of.1 counted c.args.self.now.streams size f.streams s.0 s.1 (values_of c.turn.new.self.events.obeyed.table) planned in
     let none = none-high k filed listed n c.args.time.now c.args.high.now p past i c.in-None.is in
     record {
-      events = turn.keeps.obeys k.cue_pid (high_at k) past f.events;
+      events = turn.frame.keeps.obeys k.cue_pid (high_at k) past f.events;
       plans = planned ∙ plans-none k filed listed n c.args.time.now c.args.high.now p past i stands.within of.0 of.1 counted none;
-      streams = all-go k filed listed n c.args.time.now c.args.high.now p past i stands.within of.0 of.1 counted c.args.self.now.streams c.turn.new.self.streams turn.others c.turn.new.self.streams f.streams left (λ j t. refl)
+      streams = all-go k filed listed n c.args.time.now c.args.high.now p past i stands.within of.0 of.1 counted c.args.self.now.streams c.turn.new.self.streams turn.frame.others c.turn.new.self.streams f.streams left (λ j t. refl)
           (counts-none k filed listed n c.args.time.now c.args.high.now p past i stands.within of.0 of.1 counted none c.turn.new.self.streams between);
-      leaving = subst (λ us. OthersTaken us c.turn.new.self.streams (switched_at k past) p (behind_at k past)) (sym turn.units)
-          (begun-taken (switched_at k past) n i.pid p (behind_at k past) (low k filed listed n c.args.time.now c.args.high.now p past i) i.of c.args.self.now.leaving c.args.self.now.streams c.turn.new.self.streams c.turn.new.self.streams i.begins_it turn.others (λ j t. refl) f.leaving);
-      forgotten = subst (λ r. ReportIs r (counts_known k past (is_forgotten (high_at k past)))) (sym turn.forgotten) f.forgotten;
+      leaving = subst (λ us. OthersTaken us c.turn.new.self.streams (switched_at k past) p (behind_at k past)) (sym turn.frame.units)
+          (begun-taken (switched_at k past) n i.pid p (behind_at k past) (low k filed listed n c.args.time.now c.args.high.now p past i) i.of c.args.self.now.leaving c.args.self.now.streams c.turn.new.self.streams c.turn.new.self.streams i.begins_it turn.frame.others (λ j t. refl) f.leaving);
+      forgotten = subst (λ r. ReportIs r (counts_known k past (is_forgotten (high_at k past)))) (sym turn.frame.forgotten) f.forgotten;
       all_out = λ out. none-due k filed listed n c.args.time.now c.args.high.now p past i stands.within of.0 of.1 counted;
     }
 
@@ -115,16 +115,16 @@ returns-in-Some-clause-ok g c = λ start ps k p past counted h f i.
     let around = near k filed listed n c.args.time.now c.args.high.now p past i in
     let closing = closing-is k filed listed n c.args.time.now c.args.high.now p past i stands.within of.0 of.1 counted (values_of old) f.plans in
     let turn = c.in-Ok.ensures in
-    let planned = turn.plans of.0 (high_at k past) es of.1 stands around ∙ closed-are k filed listed n c.args.time.now c.args.high.now p past i stands.within of.0 of.1 counted (values_of old) f.plans in
-    let between = counts-between k filed listed n c.args.time.now c.args.high.now p past i stands.within of.0 of.1 counted c.args.self.now.streams c.turn.new.self.streams turn.others (all-count k past c.args.self.now.streams (inside_at k past (behind_at k past)) counted f.streams)
-    (λ t t_is. subst (λ qs. Counts t.counter (put_in qs steps)) closing (turn.counted of.0 (high_at k past) es s.0 t steps of.1 stands around s.1 t_is counts)) in
-    let later = same-stands old c.turn.new.self.events.obeyed.table (high_at k past) es turn.keeps.high turn.keeps.events stands in
+    let planned = turn.closes.plans of.0 (high_at k past) es of.1 stands around ∙ closed-are k filed listed n c.args.time.now c.args.high.now p past i stands.within of.0 of.1 counted (values_of old) f.plans in
+    let between = counts-between k filed listed n c.args.time.now c.args.high.now p past i stands.within of.0 of.1 counted c.args.self.now.streams c.turn.new.self.streams turn.frame.others (all-count k past c.args.self.now.streams (inside_at k past (behind_at k past)) counted f.streams)
+    (λ t t_is. subst (λ qs. Counts t.counter (put_in qs steps)) closing (turn.closes.counted of.0 (high_at k past) es s.0 t steps of.1 stands around s.1 t_is counts)) in
+    let later = same-stands old c.turn.new.self.events.obeyed.table (high_at k past) es turn.frame.keeps.high turn.frame.keeps.events stands in
     let few = few-listed k filed listed n c.args.time.now c.args.high.now p past i in
     let reach = reached k filed listed n c.args.time.now c.args.high.now p past i in
     let vals = values_of c.turn.new.self.events.obeyed.table in
     let now = steps_between k filed n of.0 p past counted in
     let leaves : LeavesNoneDue c.turn.new.self filed listed (high_at k past) es = λ out.
-    let same = subst (λ o. IfSome o (λ _. (o ≡ c.args.self.now.all_out) × (c.turn.new.self.events ≡ c.args.self.now.events))) out.1 turn.out in
+    let same = subst (λ o. IfSome o (λ _. (o ≡ c.args.self.now.all_out) × (c.turn.new.self.events ≡ c.args.self.now.events))) out.1 turn.frame.out in
     none-before k filed listed n c.args.time.now c.args.high.now p past i stands.within of.0 of.1 counted vals (ap (λ (e : ArmedEvents Plan). values_of e.obeyed.table) same.1 ∙ f.plans)
     (f.all_out (out.0, sym same.0, out.2)) in
     let out = subst (λ l. g.S.PacketSink.holds c.turn.new.sink start (ps ++ l)) closing (turn.ok of.0 (high_at k past) es s.0 start ps steps of.1 stands around s.1 h counts) in
@@ -149,30 +149,30 @@ returns-in-Some-clause-plays g c = λ k p past counted f i.
     let around = near k filed listed n c.args.time.now c.args.high.now p past i in
     let closing = closing-is k filed listed n c.args.time.now c.args.high.now p past i stands.within of.0 of.1 counted (values_of old) f.plans in
     let turn = c.in-Ok.ensures in
-    let planned = turn.plans of.0 (high_at k past) es of.1 stands around ∙ closed-are k filed listed n c.args.time.now c.args.high.now p past i stands.within of.0 of.1 counted (values_of old) f.plans in
-    let between = counts-between k filed listed n c.args.time.now c.args.high.now p past i stands.within of.0 of.1 counted c.args.self.now.streams c.turn.new.self.streams turn.others (all-count k past c.args.self.now.streams (inside_at k past (behind_at k past)) counted f.streams)
-    (λ t t_is. subst (λ qs. Counts t.counter (put_in qs steps)) closing (turn.counted of.0 (high_at k past) es s.0 t steps of.1 stands around s.1 t_is counts)) in
-    let left : (t : SwitchedStream) → t ≡ slice_index_or c.turn.new.self.streams (n % 8) t → t.is_leaving ≡ inside_at k past (p ∷ behind_at k past) i.pid = λ t t_is. turn.leaving (high_at k past) es s.0 t stands s.1 t_is ∙ left-is k filed listed n c.args.time.now c.args.high.now p past i stands.within of.0 of.1 counted c.args.self.now.streams size f.streams s.0 s.1 (values_of c.turn.new.self.events.obeyed.table) planned in
-    let later = same-stands old c.turn.new.self.events.obeyed.table (high_at k past) es turn.keeps.high turn.keeps.events stands in
+    let planned = turn.closes.plans of.0 (high_at k past) es of.1 stands around ∙ closed-are k filed listed n c.args.time.now c.args.high.now p past i stands.within of.0 of.1 counted (values_of old) f.plans in
+    let between = counts-between k filed listed n c.args.time.now c.args.high.now p past i stands.within of.0 of.1 counted c.args.self.now.streams c.turn.new.self.streams turn.frame.others (all-count k past c.args.self.now.streams (inside_at k past (behind_at k past)) counted f.streams)
+    (λ t t_is. subst (λ qs. Counts t.counter (put_in qs steps)) closing (turn.closes.counted of.0 (high_at k past) es s.0 t steps of.1 stands around s.1 t_is counts)) in
+    let left : (t : SwitchedStream) → t ≡ slice_index_or c.turn.new.self.streams (n % 8) t → t.is_leaving ≡ inside_at k past (p ∷ behind_at k past) i.pid = λ t t_is. turn.closes.leaving (high_at k past) es s.0 t stands s.1 t_is ∙ left-is k filed listed n c.args.time.now c.args.high.now p past i stands.within of.0 of.1 counted c.args.self.now.streams size f.streams s.0 s.1 (values_of c.turn.new.self.events.obeyed.table) planned in
+    let later = same-stands old c.turn.new.self.events.obeyed.table (high_at k past) es turn.frame.keeps.high turn.frame.keeps.events stands in
     let few = few-listed k filed listed n c.args.time.now c.args.high.now p past i in
     let reach = reached k filed listed n c.args.time.now c.args.high.now p past i in
     let vals = values_of c.turn.new.self.events.obeyed.table in
     let now = steps_between k filed n of.0 p past counted in
     let leaves : LeavesNoneDue c.turn.new.self filed listed (high_at k past) es = λ out.
-    let same = subst (λ o. IfSome o (λ _. (o ≡ c.args.self.now.all_out) × (c.turn.new.self.events ≡ c.args.self.now.events))) out.1 turn.out in
+    let same = subst (λ o. IfSome o (λ _. (o ≡ c.args.self.now.all_out) × (c.turn.new.self.events ≡ c.args.self.now.events))) out.1 turn.frame.out in
     none-before k filed listed n c.args.time.now c.args.high.now p past i stands.within of.0 of.1 counted vals (ap (λ (e : ArmedEvents Plan). values_of e.obeyed.table) same.1 ∙ f.plans)
     (f.all_out (out.0, sym same.0, out.2)) in
     let put = c.put_running_due.ensures in
     on_ok_weaker c.put_running_due.result (λ x. record {
-      events = put.keeps.obeys k.cue_pid (high_at k) past (turn.keeps.obeys k.cue_pid (high_at k) past f.events);
+      events = put.frame.keeps.obeys k.cue_pid (high_at k) past (turn.frame.keeps.obeys k.cue_pid (high_at k) past f.events);
       plans = x.0 ∙ ran-are k filed listed n c.args.time.now c.args.high.now p past i stands.within of.0 of.1 counted vals planned;
-      streams = all-go k filed listed n c.args.time.now c.args.high.now p past i stands.within of.0 of.1 counted c.args.self.now.streams c.turn.new.self.streams turn.others c.put_running_due.new.self.streams f.streams left put.leaving
+      streams = all-go k filed listed n c.args.time.now c.args.high.now p past i stands.within of.0 of.1 counted c.args.self.now.streams c.turn.new.self.streams turn.frame.others c.put_running_due.new.self.streams f.streams left put.frame.leaving
           (λ j t l. subst (λ qs. Counts (slice_index_or c.put_running_due.new.self.streams j t).counter (put_in qs (now j))) (running-in-is k filed listed n c.args.time.now c.args.high.now p past i stands.within of.0 of.1 counted vals planned j) (x.1 j t l));
-      leaving = subst (λ us. OthersTaken us c.put_running_due.new.self.streams (switched_at k past) p (behind_at k past)) (sym (put.units ∙ turn.units))
-          (begun-taken (switched_at k past) n i.pid p (behind_at k past) (low k filed listed n c.args.time.now c.args.high.now p past i) i.of c.args.self.now.leaving c.args.self.now.streams c.turn.new.self.streams c.put_running_due.new.self.streams i.begins_it turn.others put.leaving f.leaving);
-      forgotten = subst (λ r. ReportIs r (counts_known k past (is_forgotten (high_at k past)))) (sym (put.forgotten ∙ turn.forgotten)) f.forgotten;
+      leaving = subst (λ us. OthersTaken us c.put_running_due.new.self.streams (switched_at k past) p (behind_at k past)) (sym (put.frame.units ∙ turn.frame.units))
+          (begun-taken (switched_at k past) n i.pid p (behind_at k past) (low k filed listed n c.args.time.now c.args.high.now p past i) i.of c.args.self.now.leaving c.args.self.now.streams c.turn.new.self.streams c.put_running_due.new.self.streams i.begins_it turn.frame.others put.frame.leaving f.leaving);
+      forgotten = subst (λ r. ReportIs r (counts_known k past (is_forgotten (high_at k past)))) (sym (put.frame.forgotten ∙ turn.frame.forgotten)) f.forgotten;
       all_out = λ out. none-due k filed listed n c.args.time.now c.args.high.now p past i stands.within of.0 of.1 counted;
-    }) (on-both _ _ c.put_running_due.result (put.plans (high_at k past) (high_at k (p ∷ past)) es later reach leaves) (put.counted (high_at k past) (high_at k (p ∷ past)) es now few later reach leaves between))
+    }) (on-both _ _ c.put_running_due.result (put.runs.plans (high_at k past) (high_at k (p ∷ past)) es later reach leaves) (put.runs.counted (high_at k past) (high_at k (p ∷ past)) es now few later reach leaves between))
 
 pub returns-in-Some-clause-err : goal.returns-in-Some-clause-err
 returns-in-Some-clause-err g c = λ start ps k p past counted h f i.
@@ -190,10 +190,10 @@ returns-in-Some-clause-err g c = λ start ps k p past counted h f i.
     let around = near k filed listed n c.args.time.now c.args.high.now p past i in
     let closing = closing-is k filed listed n c.args.time.now c.args.high.now p past i stands.within of.0 of.1 counted (values_of old) f.plans in
     let turn = c.in-Ok.ensures in
-    let planned = turn.plans of.0 (high_at k past) es of.1 stands around ∙ closed-are k filed listed n c.args.time.now c.args.high.now p past i stands.within of.0 of.1 counted (values_of old) f.plans in
-    let between = counts-between k filed listed n c.args.time.now c.args.high.now p past i stands.within of.0 of.1 counted c.args.self.now.streams c.turn.new.self.streams turn.others (all-count k past c.args.self.now.streams (inside_at k past (behind_at k past)) counted f.streams)
-    (λ t t_is. subst (λ qs. Counts t.counter (put_in qs steps)) closing (turn.counted of.0 (high_at k past) es s.0 t steps of.1 stands around s.1 t_is counts)) in
-    let later = same-stands old c.turn.new.self.events.obeyed.table (high_at k past) es turn.keeps.high turn.keeps.events stands in
+    let planned = turn.closes.plans of.0 (high_at k past) es of.1 stands around ∙ closed-are k filed listed n c.args.time.now c.args.high.now p past i stands.within of.0 of.1 counted (values_of old) f.plans in
+    let between = counts-between k filed listed n c.args.time.now c.args.high.now p past i stands.within of.0 of.1 counted c.args.self.now.streams c.turn.new.self.streams turn.frame.others (all-count k past c.args.self.now.streams (inside_at k past (behind_at k past)) counted f.streams)
+    (λ t t_is. subst (λ qs. Counts t.counter (put_in qs steps)) closing (turn.closes.counted of.0 (high_at k past) es s.0 t steps of.1 stands around s.1 t_is counts)) in
+    let later = same-stands old c.turn.new.self.events.obeyed.table (high_at k past) es turn.frame.keeps.high turn.frame.keeps.events stands in
     let few = few-listed k filed listed n c.args.time.now c.args.high.now p past i in
     let reach = reached k filed listed n c.args.time.now c.args.high.now p past i in
     let vals = values_of c.turn.new.self.events.obeyed.table in
@@ -205,14 +205,14 @@ returns-in-Some-clause-err g c = λ start ps k p past counted h f i.
     closed (running_before k filed n of.0 p past counted) (front_by k counted p past) (front-is k filed listed n c.args.time.now c.args.high.now p past i stands.within of.0 of.1 counted)
     (λ put q y. subst (λ l. g.S.PacketSink.fails c.put_running_due.new.sink start l q fault) (append_assoc ps closed put) y)
     (subst (λ l. FrontFails l (λ put q. g.S.PacketSink.fails c.put_running_due.new.sink start ((ps ++ closed) ++ put) q fault)) (running-is k filed listed n c.args.time.now c.args.high.now p past i stands.within of.0 of.1 counted vals planned) x))
-    (c.put_running_due.ensures.err (high_at k past) (high_at k (p ∷ past)) es start (ps ++ closed) now few later reach out between)
+    (c.put_running_due.ensures.err (high_at k past) (high_at k (p ∷ past)) es start (ps ++ closed) now few later reach tt out between)
 
 pub returns-in-None-clause-turns : goal.returns-in-None-clause-turns
 returns-in-None-clause-turns g c = λ k p past counted f i.
     let turn = c.in-Ok.ensures in
     record {
-      rises = turn.rises;
-      unturned = λ same below. unturned c.args.self.now c.turn.new.self (turn.still same below) turn.forgotten;
+      rises = turn.frame.rises;
+      unturned = λ same below. unturned c.args.self.now c.turn.new.self (turn.frame.still same below) turn.frame.forgotten;
     }
 
 pub returns-in-Some-clause-turns : goal.returns-in-Some-clause-turns
@@ -226,26 +226,26 @@ returns-in-Some-clause-turns g c = λ k p past counted f i.
     let of = some-there listed n c.requires in
     let around = near k filed listed n c.args.time.now c.args.high.now p past i in
     let turn = c.in-Ok.ensures in
-    let planned = turn.plans of.0 (high_at k past) es of.1 stands around ∙ closed-are k filed listed n c.args.time.now c.args.high.now p past i stands.within of.0 of.1 counted (values_of old) f.plans in
-    let later = same-stands old c.turn.new.self.events.obeyed.table (high_at k past) es turn.keeps.high turn.keeps.events stands in
+    let planned = turn.closes.plans of.0 (high_at k past) es of.1 stands around ∙ closed-are k filed listed n c.args.time.now c.args.high.now p past i stands.within of.0 of.1 counted (values_of old) f.plans in
+    let later = same-stands old c.turn.new.self.events.obeyed.table (high_at k past) es turn.frame.keeps.high turn.frame.keeps.events stands in
     let reach = reached k filed listed n c.args.time.now c.args.high.now p past i in
     let vals = values_of c.turn.new.self.events.obeyed.table in
     let leaves : LeavesNoneDue c.turn.new.self filed listed (high_at k past) es = λ out.
-    let same = subst (λ o. IfSome o (λ _. (o ≡ c.args.self.now.all_out) × (c.turn.new.self.events ≡ c.args.self.now.events))) out.1 turn.out in
+    let same = subst (λ o. IfSome o (λ _. (o ≡ c.args.self.now.all_out) × (c.turn.new.self.events ≡ c.args.self.now.events))) out.1 turn.frame.out in
     none-before k filed listed n c.args.time.now c.args.high.now p past i stands.within of.0 of.1 counted vals (ap (λ (e : ArmedEvents Plan). values_of e.obeyed.table) same.1 ∙ f.plans)
     (f.all_out (out.0, sym same.0, out.2)) in
     let running = c.put_running_due.ensures in
     on_ok_weaker c.put_running_due.result
     (λ ran. record {
-      rises = subst (λ (m : ℕ). c.args.self.now.turns ≤ m) (sym running.turns) turn.rises;
+      rises = subst (λ (m : ℕ). c.args.self.now.turns ≤ m) (sym running.frame.turns) turn.frame.rises;
       unturned = λ same below.
-          let still = turn.still (sym running.turns ∙ same) (subst (λ (m : ℕ). m + 1 < 2 ^ 64) running.turns below) in
+          let still = turn.frame.still (sym running.frame.turns ∙ same) (subst (λ (m : ℕ). m + 1 < 2 ^ 64) running.frame.turns below) in
           record {
-            events = running.keeps.events ∙ ap (λ (e : ArmedEvents Plan). events_of e.obeyed.table) still;
+            events = running.frame.keeps.events ∙ ap (λ (e : ArmedEvents Plan). events_of e.obeyed.table) still;
             courses = ap (λ (l : List Plan). map course_of l) ran
                 ∙ ran-courses filed listed (high_at k (p ∷ past)) es vals 0 listed (as-many-plans c.turn.new.self.events.obeyed.table (high_at k past) es later)
                 ∙ ap (λ (e : ArmedEvents Plan). map course_of (values_of e.obeyed.table)) still;
-            forgotten = running.forgotten ∙ turn.forgotten;
+            forgotten = running.frame.forgotten ∙ turn.frame.forgotten;
           };
     })
-    (running.plans (high_at k past) (high_at k (p ∷ past)) es later reach leaves)
+    (running.runs.plans (high_at k past) (high_at k (p ∷ past)) es later reach leaves)

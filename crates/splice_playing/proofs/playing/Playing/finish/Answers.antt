@@ -26,7 +26,7 @@ returns-clause-ok g c = λ start ps k past counted h f e.
     let counts = all-count k past c.args.self.now.streams (inside_at k past (behind_at k past)) counted f.streams in
     subst (λ l. OnOk c.put_running.result (g.S.PacketSink.holds c.put_running.new.sink start (ps ++ l)))
     (ap (λ vs. all_running filed listed None es steps vs 0 listed) f.plans ∙ rest-is k filed listed past e counted)
-    (c.put_running.ensures.ok (high_at k past) None es start ps steps (few-at-end k filed listed past e) f.events.obeyed.table tt h counts)
+    (c.put_running.ensures.ok (high_at k past) None es start ps steps (few-at-end k filed listed past e) f.events.obeyed.table tt tt h counts)
 
 pub returns-clause-reports : goal.returns-clause-reports
 returns-clause-reports g c = λ k past counted f e.
@@ -37,10 +37,10 @@ returns-clause-reports g c = λ k past counted f e.
     let put = c.put_running.ensures in
     let same = sym (ap length f.plans ∙ length-map es (λ (x : Standing). plans_at k past (behind_at k past) x.start)) in
     on_ok_weaker c.put_running.result (λ ran. record {
-      events = put.keeps.obeys k.cue_pid (high_at k) past f.events;
+      events = put.frame.keeps.obeys k.cue_pid (high_at k) past f.events;
       crossed = ap crossings ran ∙ crossings-stay filed listed None es plans 0 listed same ∙ ap crossings f.plans ∙ plans_tell_crossings k past;
-      forgotten = subst (λ r. ReportIs r (counts_known k past (is_forgotten (high_at k past)))) (sym put.forgotten) f.forgotten;
-    }) (put.plans (high_at k past) None es f.events.obeyed.table tt)
+      forgotten = subst (λ r. ReportIs r (counts_known k past (is_forgotten (high_at k past)))) (sym put.frame.forgotten) f.forgotten;
+    }) (put.runs.plans (high_at k past) None es f.events.obeyed.table tt tt)
 
 pub returns-clause-err : goal.returns-clause-err
 returns-clause-err g c = λ start ps k past counted h f e.
@@ -51,4 +51,4 @@ returns-clause-err g c = λ start ps k past counted h f e.
     let counts = all-count k past c.args.self.now.streams (inside_at k past (behind_at k past)) counted f.streams in
     subst (λ l. IfErr c.put_running.result (λ fault. FrontFails l (λ put q. g.S.PacketSink.fails c.put_running.new.sink start (ps ++ put) q fault)))
     (ap (λ vs. all_running filed listed None es steps vs 0 listed) f.plans ∙ rest-is k filed listed past e counted)
-    (c.put_running.ensures.err (high_at k past) None es start ps steps (few-at-end k filed listed past e) f.events.obeyed.table tt h counts)
+    (c.put_running.ensures.err (high_at k past) None es start ps steps (few-at-end k filed listed past e) f.events.obeyed.table tt tt h counts)

@@ -30,20 +30,20 @@ loop-stream-init g c = record {
 }
 
 pub returns-clause-ok : goal.returns-clause-ok
-returns-clause-ok g c = λ latest latest_behind es begin ps steps small st is h counts.
+returns-clause-ok g c = λ latest latest_behind es begin ps steps small st is known h counts.
     run-holds (held c.args.library.now) c.args.streams.now latest_behind es steps _ _ _ _ _ _ (c.loop-stream.invariant.run latest latest_behind es steps small st is counts) c.loop-stream-test.false begin ps h
 
-pub returns-clause-counted : goal.returns-clause-counted
-returns-clause-counted g c = λ latest latest_behind es steps small st is counts.
-    run-counts (held c.args.library.now) c.args.streams.now latest_behind es steps _ _ _ _ _ _ (c.loop-stream.invariant.run latest latest_behind es steps small st is counts) c.loop-stream-test.false
-
-pub returns-clause-plans : goal.returns-clause-plans
-returns-clause-plans g c = λ latest latest_behind es st is.
-    sym (ap (λ rest. all_ran (held c.args.library.now) c.args.streams.now latest_behind es (values_of c.loop-stream.self.events.obeyed.table) c.loop-stream.stream rest) (drop-past c.args.streams.now c.loop-stream.stream c.loop-stream-test.false))
-    ∙ c.loop-stream.invariant.plans latest latest_behind es st is
+pub returns-clause-runs : goal.returns-clause-runs
+returns-clause-runs g c = record {
+  counted = λ latest latest_behind es steps small st is known counts.
+      run-counts (held c.args.library.now) c.args.streams.now latest_behind es steps _ _ _ _ _ _ (c.loop-stream.invariant.run latest latest_behind es steps small st is counts) c.loop-stream-test.false;
+  plans = λ latest latest_behind es st is known.
+      sym (ap (λ rest. all_ran (held c.args.library.now) c.args.streams.now latest_behind es (values_of c.loop-stream.self.events.obeyed.table) c.loop-stream.stream rest) (drop-past c.args.streams.now c.loop-stream.stream c.loop-stream-test.false))
+      ∙ c.loop-stream.invariant.plans latest latest_behind es st is;
+}
 
 pub returns-in-Err-clause-err : goal.returns-in-Err-clause-err
-returns-in-Err-clause-err g c = λ latest latest_behind es begin ps steps small st is h counts.
+returns-in-Err-clause-err g c = λ latest latest_behind es begin ps steps small st is known h counts.
     let at = c.loop-stream.stream in
     let test = c.loop-stream-test.true in
     let low : at < 8 = omega (arith, test, small) in
