@@ -2,7 +2,9 @@
 -- what the devices did there.
 use Rattle.std.specs.Prelude.{◌≡◌, ◌⊎◌, ℕ, suc, ◌+◌, Bool, false, List, [], ◌∷◌, ◌++◌, Option, None, IfSome, length, reverse}
 use Rattle.ts_packet.specs.Packets.{packets_of}
+use Rattle.ts_packet.specs.declared.sink.PacketSink as sink
 use Rattle.ts_packet.specs.declared.sink.PutFault.{PutFault}
+use Rattle.packet_runs.specs.Devices.{OfPackets, OfPut}
 use Rattle.psi_section.specs.Assembling.{capped}
 use Rattle.psi_tables.specs.declared.config.Config.{Config}
 use Rattle.psi_tables.specs.declared.network.FeedFault.{FeedFault}
@@ -97,6 +99,13 @@ pub record HasStepped {M : Type 0} (chain : Chain M) (filed : ℕ → Option Adv
   pub service : ServiceStandsFor chain.service chain.service.config filed steps
   pub out : is_out (chain_sends chain.service.config filed steps)
   pub whole : chain.is_spent ≡ false
+
+-- So it is said of a step, by what the chain has gone and put before it.
+abbrev pub OfSteps : {M K : Type 0} → Chain M → (ℕ → Option Advertisement) → sink.Ghosts K → K → K
+    → (OfPackets → OfPut → List Take → ℕ → ℕ → List Step → Type 0) → Type 0
+OfSteps chain filed puts out out' said = (ts : List Take) (n k : ℕ) (steps : List Step) (start : Option (List ℕ)) (before : List (List ℕ))
+    → HasStepped chain filed (λ qs. puts.holds out start (before ++ qs)) ts n k steps
+    → said (λ qs. puts.holds out' start (before ++ qs)) (λ qs. puts.fails out' start (before ++ qs)) ts n k steps
 
 -- the same chain, of which it is open whether what was due of the advertisements that run is out
 abbrev pub chain_unasked : {M : Type 0} → Chain M → Chain M

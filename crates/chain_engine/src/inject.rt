@@ -1,10 +1,8 @@
 //! Whole runs with an injector: a network in, the cued stream out.
 
-ghost use Rattle.std.specs.Prelude.{◌≡◌, ℕ, ◌⊎◌, List, ◌++◌, Option, Err, false, OnOk, IfOk, IfErr};
-ghost use Rattle.ts_packet.specs.Sources.{SourceCounts, Stalled, Exhausted};
-ghost use Rattle.ts_packet.specs.Transfers.{WentWell};
-ghost use Rattle.psi_tables.specs.declared.config.Config.{Config};
-ghost use Rattle.chain_engine.specs.Chains.{ChainStandsFor};
+ghost use Rattle.std.specs.Prelude.{◌≡◌, false, IfOk, IfErr};
+ghost use Rattle.packet_runs.specs.Devices.{RanOut, DevicesDid};
+ghost use Rattle.chain_engine.specs.Chains.{OfChain};
 ghost use Rattle.chain_engine.specs.Stops.{first_run_fault};
 ghost use Rattle.chain_engine.specs.Progress.{Progresses};
 ghost use Rattle.chain_engine.specs.Runs.{Exchanged, InjectsAll, InjectStops, NetworkBlamed, OutputBlamed};
@@ -117,30 +115,18 @@ pub fn run_inject<M: Allocator, P: PausingPackets, U: Automation, K: GatheringSi
     out: &mut K,
 ) -> Result<Report, RunFault>
     requires { P.is_broken network.old ≡ false }
-    ensures ok { (c : Config) (start : Option (List ℕ)) (before : List (List ℕ)) → ChainStandsFor chain c
-        → K.holds out.old start before → IfOk result (InjectsAll c (P.left network.old)
-        (λ ps. K.holds out.new start (before ++ ps)) (Exchanged U.exchanges U.failures automation.old automation.new)) }
-    ensures err { (c : Config) (start : Option (List ℕ)) (before : List (List ℕ)) → ChainStandsFor chain c
-        → K.holds out.old start before → IfErr result (λ f. InjectStops c f (P.left network.old)
-        (λ ps. K.holds out.new start (before ++ ps)) (λ ps. K.fails out.new start (before ++ ps))
-        (λ ps. K.fails_to_send out.new start (before ++ ps))
-        (Exchanged U.exchanges U.failures automation.old automation.new)) }
-    ensures progress { (c : Config) (start : Option (List ℕ)) (before : List (List ℕ)) → ChainStandsFor chain c
-        → K.holds out.old start before
-        → Progresses (first_run_fault (writing_cues c)) (P.left network.old)
-        (Stalled P.leads P.counts P.falls_short network.old network.new ⊎ Exhausted P.left P.given network.old)
-        (P.counts network.old) (P.counts network.new) (K.counts out.old) (K.counts out.new) (K.is_full out.new)
-        (λ ps. K.fails out.new start (before ++ ps)) (λ ps. K.fails_to_send out.new start (before ++ ps)) result }
-    ensures read { OnOk result (SourceCounts false (P.has_ended network.old) (P.has_ended network.new)
-        (P.counts network.old) (P.counts network.new)) }
-    ensures wrote { OnOk result (WentWell (K.counts out.old) (K.counts out.new)) }
-    ensures reading { IfErr result (λ f. NetworkBlamed f (P.has_ended network.old) (P.has_ended network.new)
-        (P.counts network.old) (P.counts network.new)) }
-    ensures writing { IfErr result (λ f. OutputBlamed f (K.counts out.old) (K.counts out.new) (K.is_full out.new)) }
-    ensures turns { result ≡ Err (RunFault.Read ReadFault.Turns)
-        → Stalled P.leads P.counts P.falls_short network.old network.new ⊎ Exhausted P.left P.given network.old }
-    ensures reads { P.leads network.old network.new }
-    ensures leads { K.leads out.old out.new }
+    ensures ok { OfChain chain K.PacketSink K.fails_to_send out.old out.new
+        (λ c is_out fails unsent. IfOk result (InjectsAll c (P.left network.old) is_out
+        (Exchanged U.exchanges U.failures automation.old automation.new))) }
+    ensures err { OfChain chain K.PacketSink K.fails_to_send out.old out.new
+        (λ c is_out fails unsent. IfErr result (λ f. InjectStops c f (P.left network.old) is_out fails unsent
+        (Exchanged U.exchanges U.failures automation.old automation.new))) }
+    ensures progress { OfChain chain K.PacketSink K.fails_to_send out.old out.new
+        (λ c is_out fails unsent. Progresses (first_run_fault (writing_cues c)) (P.left network.old)
+        (RanOut P.PacketSource network.old network.new) (P.counts network.old) (P.counts network.new)
+        (K.counts out.old) (K.counts out.new) (K.is_full out.new) fails unsent result) }
+    ensures devices { DevicesDid P.PacketSource K.PacketSink (RunFault.Read ReadFault.Turns) NetworkBlamed OutputBlamed
+        network.old network.new out.old out.new result }
 {
     let mut chain = chain;
     let config = chain.config();

@@ -1,19 +1,16 @@
 //! Whole runs of the chain: the cues that the injector puts in are obeyed by the switch, in one pass over the network.
 
-ghost use Rattle.std.specs.Prelude.{◌≡◌, ℕ, ◌⊎◌, List, ◌++◌, Option, Err, true, false, OnOk, IfOk, IfErr};
-ghost use Rattle.ts_packet.specs.Sources.{SourceCounts, Stalled, Exhausted};
+ghost use Rattle.std.specs.Prelude.{◌≡◌, Err, true, false, OnOk, IfOk, IfErr};
 ghost use Rattle.ts_packet.specs.Transfers.{WentWell};
+ghost use Rattle.packet_runs.specs.Devices.{RanOut, DevicesDid};
 ghost use Rattle.outgoing_packets.specs.Faults.{is_err_or};
-ghost use Rattle.injector.specs.Steps.{Step};
-ghost use Rattle.psi_tables.specs.declared.config.Config.{Config};
 ghost use Rattle.ad_library.specs.Library.{held};
-ghost use Rattle.chain_engine.specs.Automation.{Take};
-ghost use Rattle.chain_engine.specs.Chains.{ChainStandsFor};
+ghost use Rattle.chain_engine.specs.Chains.{OfChain};
 ghost use Rattle.chain_engine.specs.Stops.{first_run_fault};
 ghost use Rattle.chain_engine.specs.Progress.{Progresses};
 ghost use Rattle.chain_engine.specs.Runs.{Exchanged, OutputBlamed};
 ghost use Rattle.chain_engine.specs.Splices.{NetworkBlamedToEnd};
-ghost use Rattle.chain_engine.specs.ChainRuns.{RunsAll, ChainStops, HasStepped, Stepped, StepStops, chain_unasked};
+ghost use Rattle.chain_engine.specs.ChainRuns.{RunsAll, ChainStops, OfSteps, Stepped, StepStops, chain_unasked};
 ghost use Rattle.program_follower.specs.Purposes.{writing_cues};
 
 use crate::automation::Automation;
@@ -42,17 +39,12 @@ impl<M: Allocator> Chain<M> {
         out: &mut K,
     ) -> Result<(), FeedFault>
         ensures leads { K.leads out.old out.new }
-        ensures ok { (ts : List Take) (n k : ℕ) (steps : List Step) (start : Option (List ℕ)) (before : List (List ℕ))
-            → HasStepped (chain_unasked self.old) (held library.now) (λ qs. K.holds out.old start (before ++ qs))
-            ts n k steps
-            → OnOk result (Stepped U.exchanges automation.old automation.new self.old self.new (held library.now)
-            (λ qs. K.holds out.new start (before ++ qs)) ts n k packet.now steps) }
-        ensures err { (ts : List Take) (n k : ℕ) (steps : List Step) (start : Option (List ℕ)) (before : List (List ℕ))
-            → HasStepped (chain_unasked self.old) (held library.now) (λ qs. K.holds out.old start (before ++ qs))
-            ts n k steps
-            → IfErr result (λ f. StepStops U.exchanges automation.old automation.new self.old self.new f
-            (held library.now) (λ qs. K.holds out.new start (before ++ qs))
-            (λ qs q x. K.fails out.new start (before ++ qs) q x) ts n k packet.now steps) }
+        ensures ok { OfSteps (chain_unasked self.old) (held library.now) K.PacketSink out.old out.new (λ is_out fails ts n k steps.
+            OnOk result (Stepped U.exchanges automation.old automation.new self.old self.new (held library.now) is_out ts n k
+            packet.now steps)) }
+        ensures err { OfSteps (chain_unasked self.old) (held library.now) K.PacketSink out.old out.new (λ is_out fails ts n k steps.
+            IfErr result (λ f. StepStops U.exchanges automation.old automation.new self.old self.new f (held library.now) is_out fails
+            ts n k packet.now steps)) }
         ensures well { OnOk result (WentWell (K.counts out.old) (K.counts out.new)) }
         ensures blamed { IfErr result (λ f. OutputBlamed (RunFault.Feed f)
             (K.counts out.old) (K.counts out.new) (K.is_full out.new)) }
@@ -81,15 +73,12 @@ impl<M: Allocator> Chain<M> {
         out: &mut K,
     ) -> Result<(), FeedFault>
         ensures leads { K.leads out.old out.new }
-        ensures ok { (ts : List Take) (n k : ℕ) (steps : List Step) (start : Option (List ℕ)) (before : List (List ℕ))
-            → HasStepped self.old (held library.now) (λ qs. K.holds out.old start (before ++ qs)) ts n k steps
-            → OnOk result (Stepped U.exchanges automation.old automation.new self.old self.new (held library.now)
-            (λ qs. K.holds out.new start (before ++ qs)) ts n k packet.now steps) }
-        ensures err { (ts : List Take) (n k : ℕ) (steps : List Step) (start : Option (List ℕ)) (before : List (List ℕ))
-            → HasStepped self.old (held library.now) (λ qs. K.holds out.old start (before ++ qs)) ts n k steps
-            → IfErr result (λ f. StepStops U.exchanges automation.old automation.new self.old self.new f
-            (held library.now) (λ qs. K.holds out.new start (before ++ qs))
-            (λ qs q x. K.fails out.new start (before ++ qs) q x) ts n k packet.now steps) }
+        ensures ok { OfSteps self.old (held library.now) K.PacketSink out.old out.new (λ is_out fails ts n k steps.
+            OnOk result (Stepped U.exchanges automation.old automation.new self.old self.new (held library.now) is_out ts n k
+            packet.now steps)) }
+        ensures err { OfSteps self.old (held library.now) K.PacketSink out.old out.new (λ is_out fails ts n k steps.
+            IfErr result (λ f. StepStops U.exchanges automation.old automation.new self.old self.new f (held library.now) is_out fails
+            ts n k packet.now steps)) }
         ensures well { OnOk result (WentWell (K.counts out.old) (K.counts out.new)) }
         ensures blamed { IfErr result (λ f. OutputBlamed (RunFault.Feed f)
             (K.counts out.old) (K.counts out.new) (K.is_full out.new)) }
@@ -217,30 +206,18 @@ pub fn run<M: Allocator, P: PausingPackets, U: Automation, K: GatheringSink>(
     out: &mut K,
 ) -> Result<Report, RunFault>
     requires { P.is_broken network.old ≡ false }
-    ensures ok { (c : Config) (start : Option (List ℕ)) (before : List (List ℕ)) → ChainStandsFor chain c
-        → K.holds out.old start before → IfOk result (RunsAll c (held library.now) (P.left network.old)
-        (λ ps. K.holds out.new start (before ++ ps)) (Exchanged U.exchanges U.failures automation.old automation.new)) }
-    ensures err { (c : Config) (start : Option (List ℕ)) (before : List (List ℕ)) → ChainStandsFor chain c
-        → K.holds out.old start before → IfErr result (λ f. ChainStops c (held library.now) f (P.left network.old)
-        (λ ps. K.holds out.new start (before ++ ps)) (λ ps. K.fails out.new start (before ++ ps))
-        (λ ps. K.fails_to_send out.new start (before ++ ps))
-        (Exchanged U.exchanges U.failures automation.old automation.new)) }
-    ensures progress { (c : Config) (start : Option (List ℕ)) (before : List (List ℕ)) → ChainStandsFor chain c
-        → K.holds out.old start before
-        → Progresses (first_run_fault (writing_cues c)) (P.left network.old)
-        (Stalled P.leads P.counts P.falls_short network.old network.new ⊎ Exhausted P.left P.given network.old)
-        (P.counts network.old) (P.counts network.new) (K.counts out.old) (K.counts out.new) (K.is_full out.new)
-        (λ ps. K.fails out.new start (before ++ ps)) (λ ps. K.fails_to_send out.new start (before ++ ps)) result }
-    ensures read { OnOk result (SourceCounts false (P.has_ended network.old) (P.has_ended network.new)
-        (P.counts network.old) (P.counts network.new)) }
-    ensures wrote { OnOk result (WentWell (K.counts out.old) (K.counts out.new)) }
-    ensures reading { IfErr result (λ f. NetworkBlamedToEnd f (P.has_ended network.old) (P.has_ended network.new)
-        (P.counts network.old) (P.counts network.new)) }
-    ensures writing { IfErr result (λ f. OutputBlamed f (K.counts out.old) (K.counts out.new) (K.is_full out.new)) }
-    ensures turns { result ≡ Err (RunFault.Read ReadFault.Turns)
-        → Stalled P.leads P.counts P.falls_short network.old network.new ⊎ Exhausted P.left P.given network.old }
-    ensures reads { P.leads network.old network.new }
-    ensures leads { K.leads out.old out.new }
+    ensures ok { OfChain chain K.PacketSink K.fails_to_send out.old out.new
+        (λ c is_out fails unsent. IfOk result (RunsAll c (held library.now) (P.left network.old) is_out
+        (Exchanged U.exchanges U.failures automation.old automation.new))) }
+    ensures err { OfChain chain K.PacketSink K.fails_to_send out.old out.new
+        (λ c is_out fails unsent. IfErr result (λ f. ChainStops c (held library.now) f (P.left network.old) is_out fails unsent
+        (Exchanged U.exchanges U.failures automation.old automation.new))) }
+    ensures progress { OfChain chain K.PacketSink K.fails_to_send out.old out.new
+        (λ c is_out fails unsent. Progresses (first_run_fault (writing_cues c)) (P.left network.old)
+        (RanOut P.PacketSource network.old network.new) (P.counts network.old) (P.counts network.new)
+        (K.counts out.old) (K.counts out.new) (K.is_full out.new) fails unsent result) }
+    ensures devices { DevicesDid P.PacketSource K.PacketSink (RunFault.Read ReadFault.Turns) NetworkBlamedToEnd OutputBlamed
+        network.old network.new out.old out.new result }
 {
     let mut chain = chain;
     let config = chain.config();

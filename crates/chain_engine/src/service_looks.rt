@@ -13,6 +13,8 @@ ghost use Rattle.ad_library.specs.Library.{held};
 ghost use Rattle.injector.specs.Steps.{Step, cued, packets_in};
 ghost use Rattle.splice_plans.specs.Adverts.{setting_of};
 ghost use Rattle.splice_plans.specs.Reporting.{ReportIs, report_of};
+ghost use Rattle.splice_plans.specs.Stepping.{Journey};
+ghost use Rattle.splice_switch.specs.Standing.{SwitchStandsAt};
 ghost use Rattle.chain_engine.specs.Stages.{InjectsFor};
 ghost use Rattle.chain_engine.specs.Passing.{ServiceStandsFor};
 
@@ -64,8 +66,10 @@ impl Service {
 
     /// What has become of the events so far, and of those that stand, as it will stand in the report.
     pub fn report(&self, library: &AdLibrary) -> SwitchReport
-        ensures { (c : Config) (steps : List Step) → ServiceStandsFor self.now c (held library.now) steps
+        ensures stands { (c : Config) (steps : List Step) → ServiceStandsFor self.now c (held library.now) steps
             → ReportIs result (report_of (setting_of c (held library.now)) (cued c steps)) }
+        ensures counts { (c : Config) (x : Journey) → SwitchStandsAt self.now.switch c (held library.now) x
+            → ReportIs result (report_of (setting_of c (held library.now)) x.read) }
     {
         self.switch.report(library)
     }

@@ -2,9 +2,8 @@
 
 ghost use Rattle.ad_library.specs.Advertisements.{Advertisement};
 ghost use Rattle.splice_switch.specs.Standing.{SwitchStandsFor};
-ghost use Rattle.std.specs.Prelude.{◌≡◌, ℕ, ◌⊎◌, [], List, ◌++◌, Option, Err, false, OnOk, IfOk, IfErr};
-ghost use Rattle.ts_packet.specs.Sources.{SourceCounts, Stalled, Exhausted};
-ghost use Rattle.ts_packet.specs.Transfers.{WentWell};
+ghost use Rattle.std.specs.Prelude.{◌≡◌, ℕ, [], Option, false, IfOk, IfErr};
+ghost use Rattle.packet_runs.specs.Devices.{OfSink, RanOut, DevicesDid};
 ghost use Rattle.program_follower.specs.Purposes.{reading_cues};
 ghost use Rattle.ad_library.specs.Library.{held};
 ghost use Rattle.chain_engine.specs.Stops.{first_run_fault};
@@ -111,27 +110,16 @@ pub fn run_splice<P: PausingPackets, K: GatheringSink>(
     out: &mut K,
 ) -> Result<SwitchReport, RunFault>
     requires { P.is_broken network.old ≡ false }
-    ensures ok { (start : Option (List ℕ)) (before : List (List ℕ)) → K.holds out.old start before
-        → IfOk result (SplicesAll config (held library.now) (P.left network.old) (λ ps. K.holds out.new start (before ++ ps))) }
-    ensures err { (start : Option (List ℕ)) (before : List (List ℕ)) → K.holds out.old start before
-        → IfErr result (λ f. SpliceStops config (held library.now) f (P.left network.old)
-        (λ ps. K.holds out.new start (before ++ ps)) (λ ps. K.fails out.new start (before ++ ps))
-        (λ ps. K.fails_to_send out.new start (before ++ ps))) }
-    ensures progress { (start : Option (List ℕ)) (before : List (List ℕ)) → K.holds out.old start before
-        → Progresses (first_run_fault (reading_cues config)) (P.left network.old)
-        (Stalled P.leads P.counts P.falls_short network.old network.new ⊎ Exhausted P.left P.given network.old)
-        (P.counts network.old) (P.counts network.new) (K.counts out.old) (K.counts out.new) (K.is_full out.new)
-        (λ ps. K.fails out.new start (before ++ ps)) (λ ps. K.fails_to_send out.new start (before ++ ps)) result }
-    ensures read { OnOk result (SourceCounts false (P.has_ended network.old) (P.has_ended network.new)
-        (P.counts network.old) (P.counts network.new)) }
-    ensures wrote { OnOk result (WentWell (K.counts out.old) (K.counts out.new)) }
-    ensures reading { IfErr result (λ f. NetworkBlamedToEnd f (P.has_ended network.old) (P.has_ended network.new)
-        (P.counts network.old) (P.counts network.new)) }
-    ensures writing { IfErr result (λ f. OutputBlamed f (K.counts out.old) (K.counts out.new) (K.is_full out.new)) }
-    ensures turns { result ≡ Err (RunFault.Read ReadFault.Turns)
-        → Stalled P.leads P.counts P.falls_short network.old network.new ⊎ Exhausted P.left P.given network.old }
-    ensures reads { P.leads network.old network.new }
-    ensures leads { K.leads out.old out.new }
+    ensures ok { OfSink K.PacketSink K.fails_to_send out.old out.new
+        (λ is_out fails unsent. IfOk result (SplicesAll config (held library.now) (P.left network.old) is_out)) }
+    ensures err { OfSink K.PacketSink K.fails_to_send out.old out.new
+        (λ is_out fails unsent. IfErr result (λ f. SpliceStops config (held library.now) f (P.left network.old) is_out fails unsent)) }
+    ensures progress { OfSink K.PacketSink K.fails_to_send out.old out.new
+        (λ is_out fails unsent. Progresses (first_run_fault (reading_cues config)) (P.left network.old)
+        (RanOut P.PacketSource network.old network.new) (P.counts network.old) (P.counts network.new)
+        (K.counts out.old) (K.counts out.new) (K.is_full out.new) fails unsent result) }
+    ensures devices { DevicesDid P.PacketSource K.PacketSink (RunFault.Read ReadFault.Turns) NetworkBlamedToEnd OutputBlamed
+        network.old network.new out.old out.new result }
 {
     let given = &config;
     let mut stage = SwitchStage {

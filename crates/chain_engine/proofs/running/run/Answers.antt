@@ -59,20 +59,31 @@ returns-clause-err g c = λ d start before h is_held.
     let named = c.in-Err.ensures.stage.0 ∙ c.new-stage.ensures.same in
     subst (λ x. ChainStops d (held c.args.library.now) c.of.result input is_out fails unsent (Exchanged g.U.Automation.exchanges g.U.Automation.failures c.args.automation.now x)) (sym (c.automation-1.given.1 (sym named))) done
 
-pub returns-clause-reading : goal.returns-clause-reading
-returns-clause-reading g c =
-    subst (λ f. NetworkBlamedToEnd f (g.P.PacketSource.has_ended c.args.network.now) (g.P.PacketSource.has_ended c.run_stage.new.network) (g.P.PacketSource.counts c.args.network.now) (g.P.PacketSource.counts c.run_stage.new.network)) (sym c.of.ensures)
-    (network_blamed_to_end c.in-Err.stop _ _ _ _ c.in-Err.ensures.reading)
+pub returns-in-Ok-clause-devices : goal.returns-in-Ok-clause-devices
+returns-in-Ok-clause-devices g c = record {
+  read = c.in-Ok.ensures.read;
+  wrote = c.in-Ok.ensures.wrote;
+  read_so = tt;
+  wrote_so = tt;
+  turned = λ e. absurd (cc);
+  reads = c.run_stage.ensures.reads;
+  puts_on = c.run_stage.ensures.leads;
+}
 
-pub returns-clause-writing : goal.returns-clause-writing
-returns-clause-writing g c =
-    subst (λ f. OutputBlamed f (g.K.PacketSink.counts c.args.out.now) (g.K.PacketSink.counts c.run_stage.new.out) (g.K.PacketSink.is_full c.run_stage.new.out)) (sym c.of.ensures)
-    (output_blamed c.in-Err.stop _ _ _ c.in-Err.ensures.writing)
-
-pub returns-clause-turns : goal.returns-clause-turns
-returns-clause-turns g c = λ e.
-    let is : c.of.result ≡ Read Turns = cc in
-    c.in-Err.ensures.turns (ap Err (turns_of c.in-Err.stop (sym c.of.ensures ∙ is)))
+pub returns-clause-devices : goal.returns-clause-devices
+returns-clause-devices g c = record {
+  read = tt;
+  wrote = tt;
+  read_so = subst (λ f. NetworkBlamedToEnd f (g.P.PacketSource.has_ended c.args.network.now) (g.P.PacketSource.has_ended c.run_stage.new.network) (g.P.PacketSource.counts c.args.network.now) (g.P.PacketSource.counts c.run_stage.new.network)) (sym c.of.ensures)
+      (network_blamed_to_end c.in-Err.stop _ _ _ _ c.in-Err.ensures.reading);
+  wrote_so = subst (λ f. OutputBlamed f (g.K.PacketSink.counts c.args.out.now) (g.K.PacketSink.counts c.run_stage.new.out) (g.K.PacketSink.is_full c.run_stage.new.out)) (sym c.of.ensures)
+      (output_blamed c.in-Err.stop _ _ _ c.in-Err.ensures.writing);
+  turned = λ e.
+      let is : c.of.result ≡ Read Turns = cc in
+      c.in-Err.ensures.turns (ap Err (turns_of c.in-Err.stop (sym c.of.ensures ∙ is)));
+  reads = c.run_stage.ensures.reads;
+  puts_on = c.run_stage.ensures.leads;
+}
 
 pub returns-in-Ok-clause-progress : goal.returns-in-Ok-clause-progress
 returns-in-Ok-clause-progress g c = λ d start before h is_held.
@@ -87,5 +98,5 @@ returns-clause-progress g c = λ d start before h is_held.
     let exchanged = (λ (x : g.row.U.Denot). Exchanged g.U.Automation.exchanges g.U.Automation.failures c.args.automation.now x) in
     stop_progresses (network_test as_run_fault (writing_cues d)) _ _ (g.P.PacketSource.has_ended c.args.network.now) (g.P.PacketSource.has_ended c.run_stage.new.network) _ _ _ _ _ fails unsent
     (λ f. ChainLeaves d (held c.args.library.now) f is_out fails unsent (exchanged c.automation-1.given.0)) (λ f bs passed rest. chain_fails d is_out fails unsent f bs passed (held c.args.library.now) (exchanged c.automation-1.given.0) rest)
-    c.of.result (returns-clause-err g c d start before h is_held) (returns-clause-reading g c) (returns-clause-writing g c)
-    (λ e. returns-clause-turns g c (ap Err e))
+    c.of.result (returns-clause-err g c d start before h is_held) (returns-clause-devices g c).read_so (returns-clause-devices g c).wrote_so
+    (λ e. (returns-clause-devices g c).turned (ap Err e))

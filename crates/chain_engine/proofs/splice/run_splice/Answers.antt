@@ -32,20 +32,31 @@ returns-in-Err-clause-err g c = λ start before is_held.
     (stops_by (reading_cues d) c.in-Err.stop input _ (SpliceLeaves d filed (run_fault_of c.in-Err.stop) is_out fails unsent)
     (splice_leaves _ _ _ _ _ c.run_stage.new.stage is_out fails unsent c.run_stage.new.stage.switch d filed (λ ps qs kept s. s.1) (λ ps qs p r. r) (λ ps next put q b. b) (λ bs e. none_by (reading_cues d) bs e) c.in-Err.stop) stops)
 
-pub returns-in-Err-clause-reading : goal.returns-in-Err-clause-reading
-returns-in-Err-clause-reading g c =
-    subst (λ f. NetworkBlamedToEnd f (g.P.PacketSource.has_ended c.args.network.now) (g.P.PacketSource.has_ended c.run_stage.new.network) (g.P.PacketSource.counts c.args.network.now) (g.P.PacketSource.counts c.run_stage.new.network)) (sym c.of.ensures)
-    (network_blamed_to_end c.in-Err.stop _ _ _ _ c.in-Err.ensures.reading)
+pub returns-in-Ok-clause-devices : goal.returns-in-Ok-clause-devices
+returns-in-Ok-clause-devices g c = record {
+  read = c.in-Ok.ensures.read;
+  wrote = c.in-Ok.ensures.wrote;
+  read_so = tt;
+  wrote_so = tt;
+  turned = λ e. absurd (cc);
+  reads = c.run_stage.ensures.reads;
+  puts_on = c.run_stage.ensures.leads;
+}
 
-pub returns-in-Err-clause-writing : goal.returns-in-Err-clause-writing
-returns-in-Err-clause-writing g c =
-    subst (λ f. OutputBlamed f (g.K.PacketSink.counts c.args.out.now) (g.K.PacketSink.counts c.run_stage.new.out) (g.K.PacketSink.is_full c.run_stage.new.out)) (sym c.of.ensures)
-    (output_blamed c.in-Err.stop _ _ _ c.in-Err.ensures.writing)
-
-pub returns-in-Err-clause-turns : goal.returns-in-Err-clause-turns
-returns-in-Err-clause-turns g c = λ e.
-    let is : c.of.result ≡ Read Turns = cc in
-    c.in-Err.ensures.turns (ap Err (turns_of c.in-Err.stop (sym c.of.ensures ∙ is)))
+pub returns-in-Err-clause-devices : goal.returns-in-Err-clause-devices
+returns-in-Err-clause-devices g c = record {
+  read = tt;
+  wrote = tt;
+  read_so = subst (λ f. NetworkBlamedToEnd f (g.P.PacketSource.has_ended c.args.network.now) (g.P.PacketSource.has_ended c.run_stage.new.network) (g.P.PacketSource.counts c.args.network.now) (g.P.PacketSource.counts c.run_stage.new.network)) (sym c.of.ensures)
+      (network_blamed_to_end c.in-Err.stop _ _ _ _ c.in-Err.ensures.reading);
+  wrote_so = subst (λ f. OutputBlamed f (g.K.PacketSink.counts c.args.out.now) (g.K.PacketSink.counts c.run_stage.new.out) (g.K.PacketSink.is_full c.run_stage.new.out)) (sym c.of.ensures)
+      (output_blamed c.in-Err.stop _ _ _ c.in-Err.ensures.writing);
+  turned = λ e.
+      let is : c.of.result ≡ Read Turns = cc in
+      c.in-Err.ensures.turns (ap Err (turns_of c.in-Err.stop (sym c.of.ensures ∙ is)));
+  reads = c.run_stage.ensures.reads;
+  puts_on = c.run_stage.ensures.leads;
+}
 
 pub returns-in-Ok-clause-progress : goal.returns-in-Ok-clause-progress
 returns-in-Ok-clause-progress g c = λ start before h.
@@ -59,5 +70,5 @@ returns-in-Err-clause-progress g c = λ start before h.
     let unsent = (λ (qs : List (List ℕ)). g.K.GatheringSink.fails_to_send c.run_stage.new.out start (before ++ qs)) in
     stop_progresses (network_test as_run_fault (reading_cues c.args.config)) _ _ (g.P.PacketSource.has_ended c.args.network.now) (g.P.PacketSource.has_ended c.run_stage.new.network) _ _ _ _ _ fails unsent
     (λ f. SpliceLeaves c.args.config (held c.args.library.now) f is_out fails unsent) (λ f bs passed rest. splice_fails c.args.config is_out fails unsent f bs passed (held c.args.library.now) rest)
-    c.of.result (returns-in-Err-clause-err g c start before h) (returns-in-Err-clause-reading g c) (returns-in-Err-clause-writing g c)
-    (λ e. returns-in-Err-clause-turns g c (ap Err e))
+    c.of.result (returns-in-Err-clause-err g c start before h) (returns-in-Err-clause-devices g c).read_so (returns-in-Err-clause-devices g c).wrote_so
+    (λ e. (returns-in-Err-clause-devices g c).turned (ap Err e))
