@@ -1,4 +1,4 @@
-mod TailLemmas
+pub mod TailLemmas
 mod MarkLemmas
 mod AirLemmas
 mod OutputLemmas

@@ -91,6 +91,7 @@ impl MapTail {
         ensures before { self.old.pid ≡ None → self.new ≡ self.old }
         ensures behind { (known : Option ℕ) (since : List (List ℕ)) → is_some self.old.pid ≡ true → TailStands self.old known since
             → TailStands self.new known (packet.now ∷ since) }
+        ensures pid { self.new.pid ≡ self.old.pid }
     {
         match self.pid {
             Some(pid) if packet.is_on(pid) => self.take_of_map(packet),

@@ -1,3 +1,9 @@
 mod ServiceLemmas
 mod ListLemmas
 mod PassLemmas
+mod KeptLemmas
+mod GoneLemmas
+mod HistoryLemmas
+mod TogetherLemmas
+mod HeardLemmas
+mod AllLemmas

@@ -104,7 +104,7 @@ pub next-begins : (p : List ℕ) (a : Airing) → a.shares ≡ false → with_ne
     → next_of p a ≡ anew_with p a.config a.stretches
 next-begins p a k e = simp k (ap (λ w. record { config = a.config; stretches = w; shares = false }) e)
 
-next-goes : (p : List ℕ) (a : Airing) → a.shares ≡ false → (next_of p a).stretches ≡ with_next (writing_cues a.config) p a.stretches
+pub next-goes : (p : List ℕ) (a : Airing) → a.shares ≡ false → (next_of p a).stretches ≡ with_next (writing_cues a.config) p a.stretches
 next-goes p a k = simp k refl
 
 same-behind : (ss tt' : List (List Entry)) (past e : List Entry) (earlier : List (List Entry)) → ss ≡ past ∷ earlier → tt' ≡ e ∷ earlier → behind_first ss ≡ behind_first tt'

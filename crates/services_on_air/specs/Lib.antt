@@ -1,2 +1,5 @@
 pub mod Airing
 pub mod Standing
+pub mod Histories
+pub mod Outputs
+pub mod Serving

@@ -1,5 +1,5 @@
 -- What several services on air stand for, packet by packet.
-use Rattle.std.specs.Prelude.{◌≡◌, ℕ, ◌+◌, List, [], ◌∷◌, reverse, length, false, not}
+use Rattle.std.specs.Prelude.{◌≡◌, ℕ, ◌+◌, List, [], ◌∷◌, ◌++◌, reverse, length, false, not}
 use Rattle.std.specs.List.{list_any}
 use Rattle.ts_packet.specs.Packets.{packets_of}
 use Rattle.psi_section.specs.Assembling.{capped}
@@ -15,6 +15,10 @@ use Rattle.on_air.specs.Marking.{Keeps}
 use Rattle.on_air.specs.AirRuns.{newest, has_no}
 use Rattle.on_air.specs.declared.report.AirReport.{AirReport}
 use Rattle.services_on_air.specs.Airing.{Airing, nexts, owns, leaves, learns, is_left, airings, unjudged_among, begun_in, behind_first, one_if_some}
+use Rattle.service_laws.specs.Services.{ServiceTerms}
+use Rattle.chain_services.specs.Serving.{CountsReplies}
+use Rattle.services_on_air.specs.Histories.{Gone}
+use Rattle.services_on_air.specs.Serving.{DeskGone, gones_asked, reply_by_gone}
 use Rattle.services_on_air.specs.declared.service.AirService.{AirService}
 use Rattle.services_on_air.specs.declared.service.Passed.{Passed}
 use Rattle.services_on_air.specs.declared.desk.AirDesk.{AirDesk}
@@ -78,9 +82,13 @@ pub record ArePassed (passed : Passed) (p : List ℕ) (xs : List Airing) : Type 
   pub unjudged : passed.is_unjudged ≡ is_left p xs
   pub learns : passed.learns ≡ list_any learns xs
 
--- a message was judged: each service goes on as it stood
+-- a message was judged: each service goes on as it stood, and the one that it is for by its own steps, which answer it
 pub record AirDeskJudges {M : Type 0} (old : AirDesk M) (m : MessageReading) (reply : Reply) (new : AirDesk M) : Type 0 where
   pub goes : (p : List ℕ) (xs : List Airing) → AllSettled old.services.items p xs → AllSettled new.services.items p xs
+  pub answers : (ts : List ServiceTerms) (gs : List Gone) → DeskGone old ts gs
+      → (reply ≡ reply_by_gone ts gs m) × DeskGone new ts (gones_asked ts m gs)
+  pub counts : (rs : List Reply) → CountsReplies old.counts.messages old.counts.accepted old.counts.refused rs
+      → CountsReplies new.counts.messages new.counts.accepted new.counts.refused (rs ++ reply ∷ [])
 
 -- these packets have passed, newest first
 pub record AirServicesStandFor {M : Type 0} (services : AirServices M) (cs : List Config) (past : List (List ℕ)) : Type 0 where

@@ -1,8 +1,13 @@
 //! Whose a message is.
 
-ghost use Rattle.std.specs.Prelude.{ℕ, List};
+ghost use Rattle.std.specs.Prelude.{◌≡◌, ◌==◌, ℕ, List};
+ghost use Rattle.scte104_codec.specs.Views.{reading_of};
+ghost use Rattle.service_laws.specs.Messages.{is_for};
+ghost use Rattle.service_laws.specs.Services.{ServiceTerms};
 ghost use Rattle.services_on_air.specs.Airing.{Airing};
 ghost use Rattle.services_on_air.specs.Standing.{AllSettled};
+ghost use Rattle.services_on_air.specs.Histories.{Gone};
+ghost use Rattle.services_on_air.specs.Serving.{AllGone, AskedOnAir, DeskGone, gones_asked, reply_by_gone};
 
 use crate::service::AirService;
 use chain_engine::Judge;
@@ -17,7 +22,9 @@ fn ask_own(
     index: u16,
     message: Result<Message<'_>, BadMessage>,
 ) -> Option<Reply>
-    ensures { (p : List ℕ) (xs : List Airing) → AllSettled services.old p xs → AllSettled services.new p xs }
+    ensures stands { (p : List ℕ) (xs : List Airing) → AllSettled services.old p xs → AllSettled services.new p xs }
+    ensures gone { (ts : List ServiceTerms) (gs : List Gone) → ((i : ℕ) → is_for i (reading_of message.entry) ≡ (index == i))
+        → AllGone services.old ts gs → AskedOnAir result services.new ts gs (reading_of message.entry) }
 {
     match services.split_first_mut() {
         None => None,
@@ -43,7 +50,12 @@ pub(crate) struct AirDesk<M: Allocator> {
 impl<M: Allocator> AirDesk<M> {
     /// Has the service that the message is for judge it.
     fn judge(&mut self, message: Result<Message<'_>, BadMessage>) -> Reply
-        ensures { (p : List ℕ) (xs : List Airing) → AllSettled self.old.services.items p xs → AllSettled self.new.services.items p xs }
+        ensures stands { (p : List ℕ) (xs : List Airing) → AllSettled self.old.services.items p xs
+            → AllSettled self.new.services.items p xs }
+        ensures gone { (ts : List ServiceTerms) (gs : List Gone) → DeskGone self.old ts gs
+            → (result ≡ reply_by_gone ts gs (reading_of message.entry))
+            × DeskGone self.new ts (gones_asked ts (reading_of message.entry) gs) }
+        ensures counts { self.new.counts ≡ self.old.counts }
     {
         match index_of(&message) {
             None => self.none.ask(message),

@@ -1,8 +1,15 @@
 //! One service on air, stretch by stretch.
 
-ghost use Rattle.std.specs.Prelude.{◌≡◌, ℕ, ◌||◌, if◌then◌else◌, List, [], length, true, false, OnOk, IfOk};
+ghost use Rattle.std.specs.Prelude.{◌≡◌, ℕ, ◌||◌, ◌++◌, if◌then◌else◌, List, [], ◌∷◌, length, Option, true, false, not, OnOk, IfOk};
 ghost use Rattle.psi_tables.specs.declared.config.Config.{Config};
 ghost use Rattle.program_follower.specs.Purposes.{writing_cues};
+ghost use Rattle.scte104_codec.specs.Views.{reading_of};
+ghost use Rattle.injector.specs.Replies.{reply_to};
+ghost use Rattle.injector.specs.Steps.{Step, packets_in, turns_in};
+ghost use Rattle.ad_library.specs.Library.{held};
+ghost use Rattle.splice_plans.specs.Reporting.{ReportIs};
+ghost use Rattle.service_laws.specs.Services.{ServiceTerms};
+ghost use Rattle.chain_engine.specs.Stages.{InjectsFor};
 ghost use Rattle.psi_section.specs.Assembling.{capped};
 ghost use Rattle.chain_engine.specs.Followed.{HasFollowed};
 ghost use Rattle.on_air.specs.Stretches.{Entry, as_read};
@@ -10,6 +17,8 @@ ghost use Rattle.on_air.specs.Marking.{Keeps, Becomes};
 ghost use Rattle.on_air.specs.AirRuns.{has_no};
 ghost use Rattle.services_on_air.specs.Airing.{Airing, begins, next_of, anew_with, known_of, known_before, owns, behind_first};
 ghost use Rattle.services_on_air.specs.Standing.{AirStandsFor, BeginsBehind, IsSettled, IsPassed};
+ghost use Rattle.services_on_air.specs.Histories.{Gone, HasGone, TailKept, nothing_gone, gone_asked, gone_on, gone_anew, gone_settled, begins_anew};
+ghost use Rattle.services_on_air.specs.Histories.{aired_as, put_anew, put_settled, put_on, put_own, put_last, counts_to_end};
 
 use crate::watch::{ServiceBegun, ServicesWatch, Shown};
 use ad_library::AdLibrary;
@@ -99,7 +108,8 @@ pub(crate) struct AirService {
 impl AirService {
     /// A service that was given no message and no packet.
     pub(crate) fn new(config: Config) -> AirService
-        ensures { AirStandsFor result (begins config) }
+        ensures stands { AirStandsFor result (begins config) }
+        ensures gone { (t : ServiceTerms) → t.config ≡ config → HasGone result t nothing_gone }
     {
         AirService {
             service: Service::new(config),
@@ -122,7 +132,9 @@ impl AirService {
     }
 
     /// The events that stood at the ends of its stretches but the last, and whose end had not come.
-    pub(crate) fn lost(&self) -> u64 {
+    pub(crate) fn lost(&self) -> u64
+        ensures { result ≡ self.now.lost }
+    {
         self.lost
     }
 
@@ -142,7 +154,10 @@ impl AirService {
 
     /// Judges a message by the packets of its stretch, and answers it.
     pub(crate) fn ask(&mut self, message: Result<Message<'_>, BadMessage>) -> Reply
-        ensures { (p : List ℕ) (a : Airing) → IsSettled self.old p a → IsSettled self.new p a }
+        ensures stands { (p : List ℕ) (a : Airing) → IsSettled self.old p a → IsSettled self.new p a }
+        ensures gone { (t : ServiceTerms) (g : Gone) → HasGone self.old t g
+            → (result ≡ reply_to t.config.index (reading_of message.entry) (turns_in t.config.program g.own))
+            × HasGone self.new t (gone_asked (reading_of message.entry) g) }
     {
         self.service.ask(message)
     }
@@ -154,6 +169,7 @@ impl AirService {
             → HasFollowed self.old.service c (as_read past) → Becomes result self.new.marks (writing_cues c) packet.now past }
         ensures service { self.new.service ≡ self.old.service }
         ensures counts { (self.new.is_empty ≡ self.old.is_empty) × (self.new.shares ≡ self.old.shares) × (self.new.begun ≡ self.old.begun) }
+        ensures kept { (self.new.tail ≡ self.old.tail) × (self.new.ended ≡ self.old.ended) × (self.new.lost ≡ self.old.lost) }
     {
         let fault = self.service.look(packet);
         if fault.is_none() && !self.marks.has_any() {
@@ -169,8 +185,9 @@ impl AirService {
 
     /// Settles what becomes of a packet with which a stretch begins: it begins no other.
     fn settle_first(&mut self, packet: &Packet)
-        ensures { (c : Config) (ss : List (List Entry)) → BeginsBehind self.old c ss
+        ensures stands { (c : Config) (ss : List (List Entry)) → BeginsBehind self.old c ss
             → IsSettled self.new packet.now (anew_with packet.now c ss) }
+        ensures gone { (t : ServiceTerms) (g : Gone) → HasGone self.old t g → HasGone self.new t g }
     {
         let verdict = self.judge(packet);
         self.is_unjudged = !verdict.is_judged();
@@ -190,8 +207,11 @@ impl AirService {
         out: &mut K,
         watch: &mut A,
     ) -> Result<(), PutFault>
-        ensures { (c : Config) (ss : List (List Entry)) → self.old.service.config ≡ c → self.old.begun ≡ capped (behind_first ss)
+        ensures stands { (c : Config) (ss : List (List Entry)) → self.old.service.config ≡ c → self.old.begun ≡ capped (behind_first ss)
             → has_no ss ≡ false → OnOk result (IsSettled self.new packet.now (anew_with packet.now c ss)) }
+        ensures out { (t : ServiceTerms) (g : Gone) (start : Option (List ℕ)) (ps : List (List ℕ)) → held library.now ≡ t.filed
+            → HasGone self.old t g → K.holds out.old start ps
+            → OnOk result (HasGone self.new t (gone_anew t g) × K.holds out.new start (ps ++ put_anew t g)) }
     {
         match self.begin_anew(library, out, watch) {
             Ok(()) => {
@@ -215,8 +235,12 @@ impl AirService {
         out: &mut K,
         watch: &mut A,
     ) -> Result<(), PutFault>
-        ensures { (a : Airing) → AirStandsFor self.old a
+        ensures stands { (a : Airing) → AirStandsFor self.old a
             → OnOk result (IsSettled self.new next.entry.packet.now (next_of next.entry.packet.now a)) }
+        ensures out { (a : Airing) (t : ServiceTerms) (g : Gone) (start : Option (List ℕ)) (ps : List (List ℕ)) → AirStandsFor self.old a
+            → held library.now ≡ t.filed → HasGone self.old t g → K.holds out.old start ps
+            → OnOk result (HasGone self.new t (gone_settled t (begins_anew next.entry.packet.now a) g)
+            × K.holds out.new start (ps ++ put_settled t (begins_anew next.entry.packet.now a) g)) }
     {
         let packet = next.packet;
         if self.is_empty {
@@ -255,8 +279,9 @@ impl AirService {
 
     /// Ends its stretch with the packet that came last, since with that a service before it shares a PID. It is told once.
     pub(crate) fn part<A: ServicesWatch>(&mut self, last: Numbered<'_>, watch: &mut A)
-        ensures { (a : Airing) → AirStandsFor self.old a
+        ensures stands { (a : Airing) → AirStandsFor self.old a
             → AirStandsFor self.new (record { config = a.config; stretches = a.stretches; shares = true }) }
+        ensures gone { (t : ServiceTerms) (g : Gone) → HasGone self.old t g → HasGone self.new t g }
     {
         if !self.shares {
             self.tell(RunFault::SharedPid, last, watch);
@@ -274,8 +299,11 @@ impl AirService {
         out: &mut K,
         watch: &mut A,
     ) -> Result<(), PutFault>
-        ensures { (c : Config) (ss : List (List Entry)) → self.old.service.config ≡ c → self.old.begun ≡ capped (behind_first ss)
+        ensures stands { (c : Config) (ss : List (List Entry)) → self.old.service.config ≡ c → self.old.begun ≡ capped (behind_first ss)
             → has_no ss ≡ false → BeginsBehind self.new c ss }
+        ensures out { (t : ServiceTerms) (g : Gone) (start : Option (List ℕ)) (ps : List (List ℕ)) → held library.now ≡ t.filed
+            → HasGone self.old t g → K.holds out.old start ps
+            → OnOk result (HasGone self.new t (gone_anew t g) × K.holds out.new start (ps ++ put_anew t g)) }
     {
         let config = self.service.config();
         let report = self.service.report(library);
@@ -297,6 +325,10 @@ impl AirService {
         ensures service { self.new.service ≡ self.old.service }
         ensures others { (self.new.marks ≡ self.old.marks) × (self.new.is_unjudged ≡ self.old.is_unjudged)
             × (self.new.is_empty ≡ self.old.is_empty) × (self.new.shares ≡ self.old.shares) × (self.new.begun ≡ self.old.begun) }
+        ensures kept { (self.new.ended ≡ self.old.ended) × (self.new.lost ≡ self.old.lost) }
+        ensures tail { (c : Config) (steps : List Step) → InjectsFor c self.old.service steps
+            → TailKept self.old.tail (writing_cues c) (packets_in steps)
+            → TailKept self.new.tail (writing_cues c) (packet.now ∷ packets_in steps) }
     {
         if self.tail.is_before_pat() {
             if let Some(pid) = self.service.pids().first() {
@@ -315,6 +347,10 @@ impl AirService {
     ) -> Result<(), PutFault>
         ensures stands { (a : Airing) → IsSettled self.old packet.now a → OnOk result (AirStandsFor self.new a) }
         ensures unjudged { self.new.is_unjudged ≡ self.old.is_unjudged }
+        ensures out { (t : ServiceTerms) (g : Gone) (start : Option (List ℕ)) (ps : List (List ℕ)) → held library.now ≡ t.filed
+            → HasGone self.old t g → K.holds out.old start ps
+            → OnOk result (HasGone self.new t (gone_on t (aired_as packet.now self.old.is_unjudged) g)
+            × K.holds out.new start (ps ++ put_on t (aired_as packet.now self.old.is_unjudged) g)) }
     {
         if self.is_unjudged {
             return self.service.pass_unjudged(packet, library, out);
@@ -335,8 +371,13 @@ impl AirService {
         library: &AdLibrary,
         out: &mut K,
     ) -> Result<Passed, PutFault>
-        ensures { (a : Airing) → IsSettled self.old packet.now a → is_own ≡ owns packet.now a → known ≡ length (known_before a)
+        ensures stands { (a : Airing) → IsSettled self.old packet.now a → is_own ≡ owns packet.now a → known ≡ length (known_before a)
             → IfOk result (λ passed. AirStandsFor self.new a × IsPassed passed packet.now a) }
+        ensures out { (t : ServiceTerms) (g : Gone) (start : Option (List ℕ)) (ps : List (List ℕ)) → held library.now ≡ t.filed
+            → HasGone self.old t g → K.holds out.old start ps
+            → IfOk result (λ passed. (passed.is_own ≡ is_own)
+            × HasGone self.new t (gone_on t (aired_as packet.now self.old.is_unjudged) g)
+            × K.holds out.new start (ps ++ put_on t (aired_as packet.now self.old.is_unjudged) g)) }
     {
         match self.pass_to(packet, library, out) {
             Ok(()) => Ok(Passed {
@@ -360,8 +401,12 @@ impl AirService {
         library: &AdLibrary,
         out: &mut K,
     ) -> Result<Passed, PutFault>
-        ensures { (a : Airing) → IsSettled self.old packet.now a
+        ensures stands { (a : Airing) → IsSettled self.old packet.now a
             → IfOk result (λ passed. AirStandsFor self.new a × IsPassed passed packet.now a) }
+        ensures out { (t : ServiceTerms) (g : Gone) (start : Option (List ℕ)) (ps : List (List ℕ)) → held library.now ≡ t.filed
+            → HasGone self.old t g → K.holds out.old start ps
+            → IfOk result (λ passed. HasGone self.new t (gone_on t (aired_as packet.now self.old.is_unjudged) g)
+            × K.holds out.new start (ps ++ put_own passed.is_own t (aired_as packet.now self.old.is_unjudged) g)) }
     {
         let known = self.service.pid_count();
         if self.service.owns(packet) {
@@ -383,7 +428,12 @@ impl AirService {
         library: &AdLibrary,
         out: &mut K,
         watch: &mut A,
-    ) -> Result<SwitchReport, PutFault> {
+    ) -> Result<SwitchReport, PutFault>
+        ensures { (t : ServiceTerms) (g : Gone) (start : Option (List ℕ)) (ps : List (List ℕ)) → held library.now ≡ t.filed
+            → HasGone self.old t g → K.holds out.old start ps
+            → IfOk result (λ report. K.holds out.new start (ps ++ put_last t g)
+            × ReportIs report (counts_to_end t g)) }
+    {
         watch.shown(&self.service, library, Shown::Last);
         match self.service.finish(library, out) {
             Ok(last) => {

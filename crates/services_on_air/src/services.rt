@@ -1,11 +1,22 @@
 //! The services of a run on air, packet by packet.
 
-ghost use Rattle.std.specs.Prelude.{◌≡◌, ◌++◌, ◌+◌, ℕ, if◌then◌else◌, List, ◌∷◌, [], map, length, None, OnOk, IfOk, IfErr};
+ghost use Rattle.std.specs.Prelude.{◌≡◌, ◌++◌, ◌+◌, ℕ, if◌then◌else◌, List, ◌∷◌, [], map, length, false, Option, None, OnOk, IfOk, IfErr};
+ghost use Rattle.scte104_codec.specs.declared.reply.Reply.{Reply};
+ghost use Rattle.service_laws.specs.Messages.{share_an_index};
+ghost use Rattle.service_laws.specs.Services.{ServiceTerms, configs_of};
+ghost use Rattle.chain_engine.specs.Automation.{Take};
+ghost use Rattle.chain_engine.specs.Runs.{Exchanged, steps_of, steps_before};
+ghost use Rattle.chain_services.specs.Serving.{FiledAs};
 ghost use Rattle.psi_section.specs.Assembling.{capped};
 ghost use Rattle.psi_tables.specs.declared.config.Config.{Config};
 ghost use Rattle.chain_services.specs.Refused.{services_refused, IsRefused};
 ghost use Rattle.services_on_air.specs.Airing.{Airing, begins, nexts, parted, begun_in};
 ghost use Rattle.services_on_air.specs.Standing.{AllStand, AllSettled, ArePassed, AirServicesStandFor, AreSettled, HavePassed, TellsOfAll};
+ghost use Rattle.services_on_air.specs.Histories.{Gone};
+ghost use Rattle.services_on_air.specs.Outputs.{lost_among};
+ghost use Rattle.services_on_air.specs.Serving.{AllGone, DeskGone, nothings_gone, gones_settled, puts_settled, gones_on, puts_on, puts_last};
+ghost use Rattle.services_on_air.specs.Serving.{AddsOnAir, AirServicesBegin, ServicesGone, ServicesSettled, ServicesHeard, ServicesEnded};
+ghost use Rattle.services_on_air.specs.Serving.{HearsAll, RunsSoFar, air_behind, air_ahead, air_to_end};
 
 use crate::desk::AirDesk;
 use crate::service::{AirService, Numbered, Passed};
@@ -38,8 +49,10 @@ fn add_services<M: Allocator>(
     services: &mut Vec<AirService, M>,
     configs: &[Config],
 ) -> Result<(), OutOfMemory>
-    ensures { (xs : List Airing) → AllStand services.old.items xs
+    ensures stands { (xs : List Airing) → AllStand services.old.items xs
         → OnOk result (AllStand services.new.items (xs ++ map begins configs.now)) }
+    ensures gone { (before ts : List ServiceTerms) (gs : List Gone) → configs_of ts ≡ configs.now → AllGone services.old.items before gs
+        → OnOk result (AllGone services.new.items (before ++ ts) (gs ++ nothings_gone ts)) }
 {
     let Some((config, others)) = configs.split_first() else {
         return Ok(());
@@ -62,8 +75,12 @@ fn settle_each<K: PacketSink, A: ServicesWatch>(
     out: &mut K,
     watch: &mut A,
 ) -> Result<(), PutFault>
-    ensures { (xs : List Airing) → AllStand services.old xs → length libraries.now ≡ length xs
+    ensures stands { (xs : List Airing) → AllStand services.old xs → length libraries.now ≡ length xs
         → OnOk result (AllSettled services.new next.entry.packet.now (nexts next.entry.packet.now xs)) }
+    ensures out { (xs : List Airing) (ts : List ServiceTerms) (gs : List Gone) (start : Option (List ℕ)) (ps : List (List ℕ))
+        → AllStand services.old xs → FiledAs libraries.now ts → AllGone services.old ts gs → K.holds out.old start ps
+        → OnOk result (AllGone services.new ts (gones_settled ts next.entry.packet.now xs gs)
+        × K.holds out.new start (ps ++ puts_settled ts next.entry.packet.now xs gs)) }
 {
     let Some((service, others)) = services.split_first_mut() else {
         return Ok(());
@@ -88,8 +105,12 @@ fn pass_each<K: PacketSink>(
     packet: &Packet,
     out: &mut K,
 ) -> Result<Passed, PutFault>
-    ensures { (xs : List Airing) → AllSettled services.old packet.now xs → length libraries.now ≡ length xs
+    ensures stands { (xs : List Airing) → AllSettled services.old packet.now xs → length libraries.now ≡ length xs
         → IfOk result (λ passed. AllStand services.new xs × ArePassed passed packet.now xs) }
+    ensures out { (ys : List Airing) (ts : List ServiceTerms) (gs : List Gone) (start : Option (List ℕ)) (ps : List (List ℕ))
+        → AllSettled services.old packet.now ys → FiledAs libraries.now ts → AllGone services.old ts gs → K.holds out.old start ps
+        → OnOk result (AllGone services.new ts (gones_on ts packet.now ys gs)
+        × K.holds out.new start (ps ++ puts_on ts packet.now ys gs)) }
 {
     let Some((service, others)) = services.split_first_mut() else {
         return Ok(Passed::beside());
@@ -118,7 +139,11 @@ fn finish_each<K: PacketSink, A: ServicesWatch>(
     events: &mut ArrayVec<ServiceEvents, 8>,
     out: &mut K,
     watch: &mut A,
-) -> Result<(), PutFault> {
+) -> Result<(), PutFault>
+    ensures { (ts : List ServiceTerms) (gs : List Gone) (start : Option (List ℕ)) (ps : List (List ℕ)) → FiledAs libraries.now ts
+        → AllGone services.old ts gs → K.holds out.old start ps
+        → OnOk result (AddsOnAir events.old.items events.new.items ts gs × K.holds out.new start (ps ++ puts_last ts gs)) }
+{
     let Some((service, others)) = services.split_first_mut() else {
         return Ok(());
     };
@@ -169,7 +194,9 @@ fn begun_of(services: &[AirService]) -> u64
 }
 
 /// The events of these services that stood at the ends of their stretches but the last, and whose end had not come.
-fn lost_of(services: &[AirService]) -> u64 {
+fn lost_of(services: &[AirService]) -> u64
+    ensures { (ts : List ServiceTerms) (gs : List Gone) → AllGone services.now ts gs → result ≡ capped (lost_among gs) }
+{
     match services.split_first() {
         None => 0,
         Some((service, others)) => service.lost().saturating_add(lost_of(others)),
@@ -184,6 +211,7 @@ impl AirServices {
     /// As for [`Services::new`].
     pub fn new(alloc: Global, configs: &[Config]) -> Result<AirServices, ServiceFault>
         ensures ok { IfOk result (λ services. AirServicesStandFor services configs.now []) }
+        ensures begins { IfOk result (λ services. AirServicesBegin services configs.now) }
         ensures sound { OnOk result (services_refused configs.now ≡ None) }
         ensures err { IfErr result (IsRefused configs.now) }
     {
@@ -199,6 +227,7 @@ impl<M: Allocator + Copy> AirServices<M> {
     /// As for [`Services::new`].
     pub fn new_in(alloc: M, configs: &[Config]) -> Result<AirServices<M>, ServiceFault>
         ensures ok { IfOk result (λ services. AirServicesStandFor services configs.now []) }
+        ensures begins { IfOk result (λ services. AirServicesBegin services configs.now) }
         ensures sound { OnOk result (services_refused configs.now ≡ None) }
         ensures err { IfErr result (IsRefused configs.now) }
     {
@@ -248,8 +277,14 @@ impl<M: Allocator> AirServices<M> {
         out: &mut K,
         watch: &mut A,
     ) -> Result<(), PutFault>
-        ensures { (cs : List Config) (past : List (List ℕ)) → AirServicesStandFor self.old cs past → length libraries.now ≡ length cs
+        ensures stands { (cs : List Config) (past : List (List ℕ)) → AirServicesStandFor self.old cs past → length libraries.now ≡ length cs
             → OnOk result (AreSettled self.new cs next.entry.packet.now past) }
+        ensures out { (ts : List ServiceTerms) (past before : List (List ℕ)) (takes : List Take) (rs : List Reply) (start : Option (List ℕ))
+            → AirServicesStandFor self.old (configs_of ts) past → FiledAs libraries.now ts → ServicesGone self.old ts past takes rs
+            → K.holds out.old start (before ++ air_behind ts past takes rs)
+            → OnOk result (ServicesSettled self.new ts next.entry.packet.now past takes rs
+            × K.holds out.new start (before ++ air_ahead ts next.entry.packet.now past (steps_of (length rs) takes past))) }
+        ensures talk { self.new.talk ≡ self.old.talk }
     {
         let services = self.desk.services.as_mut_slice();
         settle_each(services, libraries, next, out, watch)
@@ -257,7 +292,13 @@ impl<M: Allocator> AirServices<M> {
 
     /// Hears the automation before the packet that is settled.
     fn hear<U: Automation>(&mut self, automation: &mut U)
-        ensures { (cs : List Config) (p : List ℕ) (past : List (List ℕ)) → AreSettled self.old cs p past → AreSettled self.new cs p past }
+        ensures stands { (cs : List Config) (p : List ℕ) (past : List (List ℕ)) → AreSettled self.old cs p past
+            → AreSettled self.new cs p past }
+        ensures heard { (ts : List ServiceTerms) (p : List ℕ) (past : List (List ℕ)) (takes : List Take) (rs : List Reply) (first : U)
+            → share_an_index (configs_of ts) ≡ false → ServicesSettled self.old ts p past takes rs
+            → Exchanged U.exchanges U.failures first automation.old self.old.talk.end takes rs
+            → HearsAll self.new ts p past (air_ahead ts p past (steps_of (length rs) takes past))
+            (Exchanged U.exchanges U.failures first automation.new) }
     {
         self.talk.listen(&mut self.desk, automation);
     }
@@ -273,8 +314,15 @@ impl<M: Allocator> AirServices<M> {
         libraries: &[AdLibrary],
         out: &mut K,
     ) -> Result<Passed, PutFault>
-        ensures { (cs : List Config) (past : List (List ℕ)) → AreSettled self.old cs packet.now past → length libraries.now ≡ length cs
+        ensures stands { (cs : List Config) (past : List (List ℕ)) → AreSettled self.old cs packet.now past → length libraries.now ≡ length cs
             → IfOk result (HavePassed self.new cs packet.now past) }
+        ensures out { (ts : List ServiceTerms) (past before : List (List ℕ)) (takes : List Take) (rs : List Reply) (start : Option (List ℕ))
+            → AreSettled self.old (configs_of ts) packet.now past → FiledAs libraries.now ts
+            → ServicesHeard self.old ts packet.now past takes rs
+            → K.holds out.old start (before ++ air_ahead ts packet.now past (steps_before (length rs) takes past))
+            → OnOk result (ServicesGone self.new ts (packet.now ∷ past) takes rs
+            × K.holds out.new start (before ++ air_behind ts (packet.now ∷ past) takes rs)) }
+        ensures talk { self.new.talk ≡ self.old.talk }
     {
         let services = self.desk.services.as_mut_slice();
         let passed = match pass_each(services, libraries, packet, out) {
@@ -295,6 +343,8 @@ impl<M: Allocator> AirServices<M> {
         ensures all { (xs : List Airing) → AllStand self.old.desk.services.items xs
             → AllStand self.new.desk.services.items (if learns then parted xs else xs) }
         ensures others { (self.new.talk ≡ self.old.talk) × (self.new.packets ≡ self.old.packets) × (self.new.unjudged ≡ self.old.unjudged) }
+        ensures gone { (ts : List ServiceTerms) (gs : List Gone) → DeskGone self.old.desk ts gs → DeskGone self.new.desk ts gs }
+        ensures counts { self.new.desk.counts ≡ self.old.desk.counts }
     {
         if learns {
             part_each(self.desk.services.as_mut_slice(), last, watch);
@@ -328,8 +378,13 @@ impl<M: Allocator> AirServices<M> {
         out: &mut K,
         watch: &mut A,
     ) -> Result<(), PutFault>
-        ensures { (cs : List Config) (past : List (List ℕ)) → AirServicesStandFor self.old cs past → length libraries.now ≡ length cs
+        ensures stands { (cs : List Config) (past : List (List ℕ)) → AirServicesStandFor self.old cs past → length libraries.now ≡ length cs
             → OnOk result (AirServicesStandFor self.new cs (packet.now ∷ past)) }
+        ensures out { (ts : List ServiceTerms) (past before : List (List ℕ)) (start : Option (List ℕ)) (first : U)
+            → share_an_index (configs_of ts) ≡ false → AirServicesStandFor self.old (configs_of ts) past → FiledAs libraries.now ts
+            → RunsSoFar self.old ts past (λ l. K.holds out.old start (before ++ l)) (Exchanged U.exchanges U.failures first automation.old)
+            → OnOk result (RunsSoFar self.new ts (packet.now ∷ past) (λ l. K.holds out.new start (before ++ l))
+            (Exchanged U.exchanges U.failures first automation.new)) }
     {
         let next = Numbered {
             packet,
@@ -362,8 +417,11 @@ impl<M: Allocator> AirServices<M> {
         out: &mut K,
         watch: &mut A,
     ) -> Result<AirReport<ServiceReport>, PutFault>
-        ensures { (cs : List Config) (past : List (List ℕ)) → AirServicesStandFor self.old cs past
+        ensures stands { (cs : List Config) (past : List (List ℕ)) → AirServicesStandFor self.old cs past
             → IfOk result (λ told. TellsOfAll told cs past) }
+        ensures out { (ts : List ServiceTerms) (past before : List (List ℕ)) (takes : List Take) (rs : List Reply) (start : Option (List ℕ))
+            → FiledAs libraries.now ts → ServicesGone self.old ts past takes rs → K.holds out.old start (before ++ air_behind ts past takes rs)
+            → IfOk result (λ told. ServicesEnded told ts past takes rs × K.holds out.new start (before ++ air_to_end ts past takes rs)) }
     {
         let begun = begun_of(self.desk.services.as_slice());
         let lost = lost_of(self.desk.services.as_slice());

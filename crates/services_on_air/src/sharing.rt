@@ -3,6 +3,9 @@
 ghost use Rattle.std.specs.Prelude.{◌≡◌, List, map};
 ghost use Rattle.services_on_air.specs.Airing.{Airing, meets, share_one, parted_from, parted};
 ghost use Rattle.services_on_air.specs.Standing.{AirStandsFor, AllStand};
+ghost use Rattle.service_laws.specs.Services.{ServiceTerms};
+ghost use Rattle.services_on_air.specs.Histories.{Gone, HasGone};
+ghost use Rattle.services_on_air.specs.Serving.{AllGone};
 
 use crate::service::{AirService, Numbered};
 use crate::watch::ServicesWatch;
@@ -33,7 +36,8 @@ fn part_one<A: ServicesWatch>(
     last: Numbered<'_>,
     watch: &mut A,
 )
-    ensures { (a b : Airing) → AirStandsFor one.now a → AirStandsFor other.old b → AirStandsFor other.new (parted_from a b) }
+    ensures stands { (a b : Airing) → AirStandsFor one.now a → AirStandsFor other.old b → AirStandsFor other.new (parted_from a b) }
+    ensures gone { (t : ServiceTerms) (g : Gone) → HasGone other.old t g → HasGone other.new t g }
 {
     if share_one(one, other) {
         other.part(last, watch);
@@ -48,7 +52,9 @@ fn part_from<A: ServicesWatch>(
     last: Numbered<'_>,
     watch: &mut A,
 )
-    ensures { (a : Airing) (bs : List Airing) → AirStandsFor one.now a → AllStand others.old bs → AllStand others.new (map (parted_from a) bs) }
+    ensures stands { (a : Airing) (bs : List Airing) → AirStandsFor one.now a → AllStand others.old bs
+        → AllStand others.new (map (parted_from a) bs) }
+    ensures gone { (ts : List ServiceTerms) (gs : List Gone) → AllGone others.old ts gs → AllGone others.new ts gs }
 {
     let Some((other, others)) = others.split_first_mut() else {
         return;
@@ -63,7 +69,8 @@ pub(crate) fn part_each<A: ServicesWatch>(
     last: Numbered<'_>,
     watch: &mut A,
 )
-    ensures { (xs : List Airing) → AllStand services.old xs → AllStand services.new (parted xs) }
+    ensures stands { (xs : List Airing) → AllStand services.old xs → AllStand services.new (parted xs) }
+    ensures gone { (ts : List ServiceTerms) (gs : List Gone) → AllGone services.old ts gs → AllGone services.new ts gs }
 {
     let Some((one, others)) = services.split_first_mut() else {
         return;

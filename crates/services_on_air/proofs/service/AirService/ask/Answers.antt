@@ -1,9 +1,10 @@
-use Rattle.std.proofs.Common.{◌∷◌, ◌∙◌}
+use Rattle.std.proofs.Common.{◌∷◌, refl, ◌∙◌}
 use Rattle.injector.specs.Steps.{Message}
+use Rattle.services_on_air.proofs.GoneLemmas.{asked-so}
 use Rattle.services_on_air.proofs.service.AirService.ask.Goals as goal
 
-pub returns : goal.returns
-returns c = λ p a h.
+pub returns-clause-stands : goal.returns-clause-stands
+returns-clause-stands c = λ p a h.
     let asked = c.ask.ensures in
     record {
       j = h.j;
@@ -18,3 +19,6 @@ returns c = λ p a h.
       shares = h.shares;
       begun = h.begun;
     }
+
+pub returns-clause-gone : goal.returns-clause-gone
+returns-clause-gone c = λ t g h. asked-so c.args.self.now _ t g _ c.ask.result c.ask.ensures refl refl refl h

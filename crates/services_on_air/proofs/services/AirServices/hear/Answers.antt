@@ -1,10 +1,11 @@
 use Rattle.std.proofs.Common.{suc, ◌+◌, ◌++◌, length}
 use Rattle.services_on_air.specs.Airing.{nexts, airings}
 use Rattle.services_on_air.proofs.PassLemmas.{asked-all}
+use Rattle.services_on_air.proofs.HeardLemmas.{heard}
 use Rattle.services_on_air.proofs.services.AirServices.hear.Goals as goal
 
-pub returns : goal.returns
-returns g c = λ cs p past h.
+pub returns-clause-stands : goal.returns-clause-stands
+returns-clause-stands g c = λ cs p past h.
     let (more, rs, talks, replied) = c.listen.ensures.talk h.ts h.n h.k h.talks in
     record {
       ts = h.ts ++ more;
@@ -15,3 +16,8 @@ returns g c = λ cs p past h.
       packets = h.packets;
       unjudged = h.unjudged;
     }
+
+pub returns-clause-heard : goal.returns-clause-heard
+returns-clause-heard g c = λ ts p past takes rs first apart h exchanged.
+    heard g.U.Automation.exchanges g.met.U.Automation.exchanges_refl g.met.U.Automation.exchanges_trans g.U.Automation.failures first ts apart p past takes rs c.args.automation.now c.listen.new.automation c.args.self.now _
+    h exchanged c.listen.ensures.talk c.listen.ensures.closed c.listen.ensures.failures

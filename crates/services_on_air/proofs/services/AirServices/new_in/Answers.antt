@@ -1,5 +1,9 @@
 use Rattle.std.proofs.Common.{rules, [], refl, sym, subst}
 use Rattle.services_on_air.specs.Standing.{AllStand}
+use Rattle.std.proofs.Common.{ap, ◌∙◌}
+use Rattle.std.specs.Option.{option_copied}
+use Rattle.services_on_air.proofs.TogetherLemmas.{first-index}
+use Rattle.services_on_air.specs.Serving.{AllGone}
 use Rattle.services_on_air.proofs.services.AirServices.new_in.Goals as goal
 
 pub returns-clause-ok : goal.returns-clause-ok
@@ -8,7 +12,23 @@ returns-clause-ok g c = record {
   n = 0;
   k = 0;
   talks = search rules;
-  all = c.in-Ok-add_services.ensures [] (subst (λ l. AllStand l []) (sym c.new-services.ensures.items) tt);
+  all = c.in-Ok-add_services.ensures.stands [] (subst (λ l. AllStand l []) (sym c.new-services.ensures.items) tt);
   packets = refl;
   unjudged = refl;
+}
+
+pub returns-clause-begins : goal.returns-clause-begins
+returns-clause-begins g c = record {
+  talks = search rules;
+  gone = λ ts e. record {
+    all = c.in-Ok-add_services.ensures.gone [] ts [] e (subst (λ l. AllGone l [] []) (sym c.new-services.ensures.items) tt);
+    none = record {
+      index = c.in-Some.first.now.index;
+      steps = [];
+      is_first = first-index ts c.args.configs.now c.in-Some.first.now e (sym c.first.ensures.value ∙ ap option_copied c.in-Some.is);
+      stands = c.new.ensures.stands;
+    };
+  };
+  counts = record { messages = refl; accepted = refl; refused = refl };
+  indexes = c.in-Ok.ensures.ok.indexes;
 }
