@@ -1,7 +1,9 @@
 -- Services that take a packet, behind some that do not: these add nothing, and nothing changes for them.
-use Rattle.std.proofs.Common.{◌≡◌, ◌%◌, ◌/◌, ◌+◌, ℕ, zero, suc, length, List, [], ◌∷◌, ◌++◌, Bool, ◌||◌, refl, sym, ap, subst, ◌∙◌, arith}
+use Rattle.std.proofs.Common.{◌≡◌, ◌≤◌, ◌%◌, ◌/◌, ◌+◌, ◌^◌, ℕ, zero, suc, length, List, [], ◌∷◌, ◌++◌, Bool, ◌||◌, refl, sym, ap, subst, ◌∙◌, arith}
 use Rattle.std.specs.Prelude.{if◌then◌else◌, Result, Ok, Err, IfOk, IfErr}
+use Rattle.std.specs.Int.Count.{count_trailing_zeros, under}
 use Rattle.std.specs.Option.{option_or}
+use Rattle.std.proofs.Math.Nat.{div-div-eq-div-mul}
 use Rattle.wire_fields.specs.Numbers.{AreBytes}
 use Rattle.ts_packet.specs.declared.sink.PutFault.{PutFault}
 use Rattle.psi_tables.specs.declared.network.FeedFault.{FeedFault}
@@ -20,10 +22,20 @@ use Rattle.chain_services.specs.Parts.{one_owns, parts_of, AllKnowSame, PassedEa
 use Rattle.chain_services.proofs.PartLemmas.{serves_packet, none_at}
 use Rattle.chain_services.proofs.UnfollowedLemmas.{not-own, knows-same, skipped-by}
 
--- one bit more is not set
-pub shifted-more : (count left takers : ℕ) → IsShifted count left takers → left % 2 ≡ 0 → IsShifted (suc count) (left / 2) takers
-shifted-more zero left takers h bit = (ap (λ n. n % 2) (sym h) ∙ bit, ap (λ n. n / 2) h)
-shifted-more (suc count) left takers h bit = (h.0, shifted-more count left (takers / 2) h.1 bit)
+-- of the digits below the lowest set one
+under_set : (d t count : ℕ) → suc count ≤ under d t → (d ≡ 0) × (count ≤ t)
+under_set zero t count h = (refl, omega (arith, h))
+under_set (suc d) t count h = absurd (omega (arith, h))
+
+-- so many of the lowest digits are not set
+pub shifted-by : (k count takers : ℕ) → count ≤ count_trailing_zeros k takers → IsShifted count (takers / 2 ^ count) takers
+unfolding count_trailing_zeros
+shifted-by k zero takers h = grind arith
+shifted-by zero (suc count) takers h = absurd (omega (arith, h))
+shifted-by (suc k) (suc count) takers h =
+    let u = under_set (takers % 2) (count_trailing_zeros k (takers / 2)) count h in
+    let e : takers / 2 / 2 ^ count ≡ takers / 2 ^ suc count = div-div-eq-div-mul takers 2 (2 ^ count) ∙ ap (λ n. takers / n) (grind arith) in
+    (u.0, subst (λ n. IsShifted count n (takers / 2)) e (shifted-by k count (takers / 2) u.1))
 
 -- what is so of the services behind a front of these
 pub record BehindFront {A : Type 0} (libraries : List (AdLibrary A)) (front back : List Service) (left : ℕ) (ts : List ServiceTerms) (p : List ℕ) (steps : List Step) : Type 0 where

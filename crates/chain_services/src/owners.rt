@@ -112,15 +112,13 @@ pub(crate) fn shift_of(takers: u8, most: usize) -> Shift
     ensures shifted { IsShifted result.count result.takers takers }
     ensures few { result.count ≤ most }
 {
-    let mut count = 0;
-    let mut left = takers;
-    while count < most && left % 2 == 0 {
-        left /= 2;
-        count += 1;
+    if takers == 0 {
+        return Shift { count: 0, takers };
     }
+    let count = most.min(takers.trailing_zeros() as usize);
     Shift {
         count,
-        takers: left,
+        takers: takers >> count,
     }
 }
 
