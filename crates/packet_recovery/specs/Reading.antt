@@ -180,6 +180,10 @@ pub record Given (old new : Option (List ℕ)) (slot : List ℕ) (given before a
   pub marks : mended_after ≡ capped (mended_before + mends (raw ∷ []))
   pub place_is : place ≡ capped (after + 188 * given)
 
+-- how many bytes stand before the last of so many packets, before which so many are left out; 0 where there is none
+abbrev pub last_place : ℕ → ℕ → ℕ
+last_place given before = if given == 0 then 0 else capped (before + 188 * (given - 1))
+
 abbrev pub Recovers : Bool → Option (List ℕ) → Option (List ℕ) → List ℕ → ℕ → ℕ → ℕ → ℕ → ℕ → ℕ → ℕ → Type 0
 Recovers true old new slot given before after mended_before mended_after place_before place_after = Given old new slot given before after mended_before mended_after place_after
 Recovers false old new slot given before after mended_before mended_after place_before place_after =

@@ -4,7 +4,7 @@ ghost use Rattle.std.specs.Prelude.{◌≡◌, ℕ, ◌+◌, ◌-◌, ◌*◌, �
 ghost use Rattle.ts_packet.specs.Sources.{SourceCounts, SourceBlamed};
 ghost use Rattle.packet_recovery.specs.Mending.{mend, mends, is_plain};
 ghost use Rattle.packet_recovery.specs.Reading.{capped, rest_of, is_ahead_by, has_ended_by, is_packet_by};
-ghost use Rattle.packet_recovery.specs.Reading.{Recovers, Missed, StartsAt, IsOfDevice, read_fault_of, most_calls_of};
+ghost use Rattle.packet_recovery.specs.Reading.{Recovers, Missed, StartsAt, IsOfDevice, read_fault_of, most_calls_of, last_place};
 
 use crate::search::Regained;
 use crate::sight::look;
@@ -27,13 +27,18 @@ pub struct RecoveringReader<'a, S: Source> {
     given: u64,
     skipped: u64,
     mended: u64,
-    place: u64,
+    /// How many bytes were left out before the packet that was given last.
+    skipped_before: u64,
+    /// The next packet is read in its place, of which nothing was read: what is below is false.
+    is_in_place: bool,
     /// The sync byte of the next packet was read.
     is_ahead: bool,
     has_ended: bool,
     is_broken: bool,
     ghost ended: { has_ended ≡ true → is_broken ≡ false },
     ghost counted: { given < 2 ^ 64 },
+    ghost placed: { is_in_place ≡ true → (is_broken ≡ false) × (has_ended ≡ false) × (is_ahead ≡ false) },
+    ghost stays: { is_broken ≡ false → has_ended ≡ false → skipped_before ≡ skipped },
 }
 
 /// Whether the sync byte behind the packet is read.
@@ -100,12 +105,14 @@ fn mend_packet(packet: &mut Packet, mended: u64) -> u64
     }
 }
 
-/// How many bytes stand before the packet behind so many packets, and so many bytes that are left out.
-#[inline(always)]
-fn place_behind(given: u64, skipped: u64) -> u64
-    ensures { result ≡ capped (skipped + 188 * given) }
+/// How many bytes stand before the last of so many packets, before which so many bytes are left out; 0 where there is none.
+fn last_place(given: u64, skipped_before: u64) -> u64
+    ensures { result ≡ last_place given skipped_before }
 {
-    skipped.saturating_add(given.saturating_mul(188))
+    if given == 0 {
+        return 0;
+    }
+    skipped_before.saturating_add((given - 1).saturating_mul(188))
 }
 
 /// The reader's fault, by that of its device.
@@ -135,7 +142,8 @@ impl<'a, S: Source> RecoveringReader<'a, S> {
             given: 0,
             skipped: 0,
             mended: 0,
-            place: 0,
+            skipped_before: 0,
+            is_in_place: true,
             is_ahead: false,
             has_ended: false,
             is_broken: false,
@@ -158,9 +166,9 @@ impl<'a, S: Source> RecoveringReader<'a, S> {
 
     /// How many bytes stood before the packet that was given last, up to the greatest u64; 0 before the first.
     pub fn place(&self) -> u64
-        ensures { result ≡ self.now.place }
+        ensures { result ≡ last_place self.now.given self.now.skipped_before }
     {
-        self.place
+        last_place(self.given, self.skipped_before)
     }
 
     /// A packet is read next in its place, of which nothing was read.
@@ -169,7 +177,7 @@ impl<'a, S: Source> RecoveringReader<'a, S> {
         ensures { result ≡ true → (self.now.is_broken ≡ false) × (self.now.has_ended ≡ false) × (self.now.is_ahead ≡ false)
             × (self.now.given < 2 ^ 64 - 1) }
     {
-        !self.is_broken && !self.has_ended && !self.is_ahead && self.given != u64::MAX
+        self.is_in_place && self.given != u64::MAX
     }
 
     /// Reads the next packet into the slot, where there is one; false at the end of the bytes. What a fault or the end leaves in the slot is
@@ -185,7 +193,8 @@ impl<'a, S: Source> RecoveringReader<'a, S> {
         ensures ok { IfOk result (λ more. Recovers more
             (rest_of self.old.has_ended self.old.is_ahead (S.remaining self.old.source.now))
             (rest_of self.new.has_ended self.new.is_ahead (S.remaining self.new.source.now)) packet.new self.old.given
-            self.old.skipped self.new.skipped self.old.mended self.new.mended self.old.place self.new.place) }
+            self.old.skipped self.new.skipped self.old.mended self.new.mended
+            (last_place self.old.given self.old.skipped_before) (last_place self.new.given self.new.skipped_before)) }
         ensures err { IfErr result (λ f. IsOfDevice self.old.is_broken f) }
         ensures missed { IfErr result (λ f. Missed
             (rest_of self.old.has_ended self.old.is_ahead (S.remaining self.old.source.now))
@@ -211,7 +220,6 @@ impl<'a, S: Source> RecoveringReader<'a, S> {
         if !is_plain(packet) {
             return self.read_apart(packet, true);
         }
-        self.place = place_behind(self.given, self.skipped);
         self.given += 1;
         Ok(true)
     }
@@ -228,7 +236,8 @@ impl<'a, S: Source> RecoveringReader<'a, S> {
             (rest_of self.old.has_ended self.old.is_ahead (S.remaining self.old.source.now)) packet.old
             → IfOk result (λ more. Recovers more start
             (rest_of self.new.has_ended self.new.is_ahead (S.remaining self.new.source.now)) packet.new self.old.given
-            self.old.skipped self.new.skipped self.old.mended self.new.mended self.old.place self.new.place) }
+            self.old.skipped self.new.skipped self.old.mended self.new.mended
+            (last_place self.old.given self.old.skipped_before) (last_place self.new.given self.new.skipped_before)) }
         ensures err { IfErr result (λ f. IsOfDevice self.old.is_broken f) }
         ensures missed { (start : Option (List ℕ)) → StartsAt is_filled start
             (rest_of self.old.has_ended self.old.is_ahead (S.remaining self.old.source.now)) packet.old
@@ -251,6 +260,7 @@ impl<'a, S: Source> RecoveringReader<'a, S> {
         if self.has_ended {
             return Ok(false);
         }
+        self.is_in_place = false;
         if self.given == u64::MAX {
             self.is_broken = true;
             return Err(ReadFault::Turns);
@@ -264,8 +274,9 @@ impl<'a, S: Source> RecoveringReader<'a, S> {
                 if !is_packet(sight) {
                     return Ok(false);
                 }
+                self.is_in_place = !self.is_ahead && !self.has_ended;
                 self.mended = mend_packet(packet, self.mended);
-                self.place = place_behind(self.given, skipped);
+                self.skipped_before = skipped;
                 self.given += 1;
                 Ok(true)
             }
@@ -347,11 +358,13 @@ impl<S: PausingSource> PausingPackets for RecoveringReader<'_, S> {
 
     #[inline(always)]
     fn next_may_wait(&self) -> bool {
-        if self.has_ended {
-            return false;
-        }
-        if self.is_ahead {
-            return self.source.may_wait(187);
+        if !self.is_in_place {
+            if self.has_ended {
+                return false;
+            }
+            if self.is_ahead {
+                return self.source.may_wait(187);
+            }
         }
         if self.source.may_wait(188) {
             return true;
