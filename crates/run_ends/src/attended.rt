@@ -1,6 +1,8 @@
-//! A reader or a writer that remembers the system's last reason for a failure, counts its flushes and remembers how the last one went.
+//! A reader or a writer that remembers the system's last reason for a failure, counts its reads and flushes and remembers how the last flush
+//! went.
 
 use crate::flushes::Flushes;
+use crate::reads::Reads;
 use std::io::{self, ErrorKind, Read, Write};
 
 /// How what was written to a writer was flushed.
@@ -21,12 +23,14 @@ pub struct Attended<D> {
     reason: Option<io::Error>,
     last_flush: LastFlush,
     flushes: Flushes,
+    reads: Reads,
 }
 
 impl<D> Attended<D> {
     ghost use Rattle.std.specs.Prelude.{◌≡◌, ◌≢◌, None, Some};
     ghost use Rattle.std.specs.IoError.{error_kind};
     ghost use Rattle.run_ends.specs.Flushes.{no_flushes, is_done};
+    ghost use Rattle.run_ends.specs.Reads.{none_made};
 
     /// The reader or writer as before its first call.
     fn uncalled(inner: D) -> Attended<D>
@@ -34,18 +38,21 @@ impl<D> Attended<D> {
         ensures reason { result.reason ≡ None }
         ensures due { result.last_flush ≡ LastFlush.Due }
         ensures flushes { result.flushes ≡ no_flushes }
+        ensures reads { result.reads ≡ none_made }
     {
         Attended {
             inner,
             reason: None,
             last_flush: LastFlush::Due,
             flushes: Flushes::new(),
+            reads: Reads::new(),
         }
     }
 
     /// Attends to this reader or writer.
     pub fn new(inner: D) -> Attended<D>
-        ensures { result.inner ≡ inner }
+        ensures inner { result.inner ≡ inner }
+        ensures reads { result.reads ≡ none_made }
     {
         Attended::uncalled(inner)
     }
@@ -55,6 +62,7 @@ impl<D> Attended<D> {
         ensures inner { self.new.inner ≡ self.old.inner }
         ensures flush { self.new.last_flush ≡ self.old.last_flush }
         ensures flushes { self.new.flushes ≡ self.old.flushes }
+        ensures reads { self.new.reads ≡ self.old.reads }
         ensures kind { error_kind result ≡ error_kind error }
         ensures reason { error_kind error ≢ ErrorKind.Interrupted → self.new.reason ≡ Some error }
         ensures again { error_kind error ≡ ErrorKind.Interrupted → self.new.reason ≡ self.old.reason }
@@ -87,6 +95,7 @@ impl<D> Attended<D> {
             reason,
             last_flush: _,
             flushes: _,
+            reads: _,
         } = self;
         (inner, reason)
     }
@@ -102,16 +111,27 @@ impl<D> Attended<D> {
             reason,
             last_flush: _,
             flushes: _,
+            reads: _,
         } = self;
         reason
     }
 }
 
 impl<R: Read> Read for Attended<R> {
+    ghost use Rattle.std.specs.Io.{ReadsAtMost};
+    ghost use Rattle.std.specs.Io.KnownBytes.{ReadConsumes};
+    ghost use Rattle.run_ends.specs.Reads.{CountsCall};
+
     ghost remaining = { λ a. R.remaining a.inner };
 
-    fn read(&mut self, buf: &mut [u8]) -> io::Result<usize> {
-        match self.inner.read(buf) {
+    fn read(&mut self, buf: &mut [u8]) -> io::Result<usize>
+        ensures bound { ReadsAtMost result buf.new }
+        ensures bytes { ReadConsumes (R.remaining self.old.inner) (R.remaining self.new.inner) result buf.new }
+        ensures counted { CountsCall result self.old.reads self.new.reads }
+    {
+        let answer = self.inner.read(buf);
+        self.reads.count(&answer);
+        match answer {
             Ok(count) => Ok(count),
             Err(error) => Err(self.keep(error)),
         }

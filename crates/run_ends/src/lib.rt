@@ -8,6 +8,7 @@ mod attended;
 mod ends;
 mod flushes;
 mod flushing;
+mod reads;
 
 pub use attended::Attended;
 pub use ends::{End, OpenedEnds, Unopened, create_beside, open_ends, open_input};
