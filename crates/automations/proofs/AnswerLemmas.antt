@@ -1,5 +1,5 @@
 -- The answers that replies come to, where all were given: their lines.
-use Rattle.std.proofs.Common.{◌≡◌, ◌++◌, Bool, true, false, List, [], ◌∷◌, refl, sym, ap}
+use Rattle.std.proofs.Common.{◌≡◌, ◌++◌, true, false, List, [], ◌∷◌, refl, ap}
 use Rattle.scte104_codec.specs.declared.reply.Reply.{Reply}
 use Rattle.scte104_codec.specs.Replies.{reply_bytes}
 use Rattle.chain_engine.specs.Hearing.{answers_to}

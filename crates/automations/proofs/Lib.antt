@@ -1,4 +1,5 @@
 mod ClientsLemmas
+mod MemoryLemmas
 mod PlaceLemmas
 mod ReadingLemmas
 mod RefusalLemmas

@@ -53,7 +53,7 @@ byte_on bytes lines packet count digit byte high low b text i k lt m e h =
     }
 
 -- the first digit of a byte
-half_on : (bytes : List ℕ) (lines : List Line) (packet digit : ℕ) (text : List ℕ) → BytesSoFar bytes lines packet [] text
+pub half_on : (bytes : List ℕ) (lines : List Line) (packet digit : ℕ) (text : List ℕ) → BytesSoFar bytes lines packet [] text
     → BytesSoFar bytes lines packet (digit ∷ []) (text ++ digit ∷ [])
 half_on bytes lines packet digit text h =
     let line : (h.digits ++ 32 ∷ (h.hex ++ [])) ++ digit ∷ [] ≡ h.digits ++ 32 ∷ (h.hex ++ digit ∷ []) =

@@ -1,5 +1,5 @@
 -- What the clients of a port ask together: whole messages, one after another, whatever becomes of the sessions between them.
-use Rattle.std.specs.Prelude.{◌≡◌, ◌⊎◌, ℕ, ◌+◌, ◌<◌, ◌≤◌, ◌^◌, Bool, true, false, ◌&&◌, if◌then◌else◌, List, [], ◌∷◌, ◌++◌, Option, None, Some, length, drop}
+use Rattle.std.specs.Prelude.{◌≡◌, ◌⊎◌, ℕ, ◌+◌, ◌≤◌, true, false, ◌&&◌, if◌then◌else◌, List, [], ◌++◌, Option, None, Some, length, drop}
 use Rattle.std.specs.List.{All, concat}
 use Rattle.std.specs.Io.KnownBytes.{Keeps, Consumes, Appends}
 use Rattle.std.proofs.Common.{refl, ap, sym, subst, ◌∙◌, append_assoc, append-nil}
@@ -12,12 +12,10 @@ use Rattle.scte104_codec.specs.declared.framing.Frame.TheVariants.{Whole, BadSiz
 use Rattle.chain_engine.specs.Automation.{Take, piece, ended, failed, Answer, Exchange, takes_in, answers_in, bytes_in, bytes_of}
 use Rattle.chain_engine.proofs.ExchangeLemmas.{takes_both, answers_both_in}
 use Rattle.automations.specs.ScriptAnswers.{are_given}
-use Rattle.automations.specs.declared.calls.Requests.{Requests}
 use Rattle.automations.specs.declared.letter.Letter.{Letter}
 use Rattle.automations.specs.declared.letter.Progress.{Progress}
 use Rattle.automations.specs.declared.letter.Progress.TheVariants as progress
 use Rattle.automations.specs.declared.clients.Client.{Client}
-use Rattle.automations.specs.declared.clients.Clients.{Clients}
 
 -- the bytes are one message: they end where its field messageSize says (ANSI/SCTE 104, 8.2.1 and 8.2.2)
 abbrev pub IsMessage : List ℕ → Type 0

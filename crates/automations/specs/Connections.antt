@@ -1,19 +1,40 @@
 -- What a connection reads of its client, and writes to it.
-use Rattle.std.specs.Prelude.{◌≡◌, ◌⊎◌, ℕ, ◌+◌, ◌<◌, ◌≤◌, Bool, true, List, [], ◌++◌, Option, take}
+use Rattle.std.specs.Prelude.{◌≡◌, ◌⊎◌, ℕ, ◌+◌, ◌<◌, ◌≤◌, true, List, [], ◌++◌, Option, take}
 use Rattle.std.specs.List.{flat_map}
 use Rattle.std.specs.Io.KnownBytes.{Keeps, Consumes, Appends, IsAtEnd}
-use Rattle.std.proofs.Common.{refl, ap, sym, subst, ◌∙◌}
+use Rattle.std.proofs.Common.{ap, sym, subst, ◌∙◌}
 use Rattle.std.proofs.KnownBytes.{Consumes-nil, Consumes-trans, Appends-nil, Appends-trans}
 use Rattle.std.proofs.lemmas.Grind.{flat_map-append}
 use Rattle.ts_packet.specs.Transfers.{IsCounted}
-use Rattle.chain_engine.specs.Automation.{Take, Answer, Exchange, takes_in, answers_in, bytes_in, bytes_of}
+use Rattle.std.specs.Prelude.{◌∷◌}
+use Rattle.std.specs.Net.Addr.{ipv4_octets}
+use Rattle.std.specs.Net.Socket.{IsPlainSocket, socket_ip}
+use Rattle.std.specs.declared.net.ip_addr.IpAddr.{IpAddr}
+use Rattle.std.specs.declared.net.ip_addr.IpAddr.TheVariants as ip
+use Rattle.std.specs.declared.net.socket_addr.SocketAddr.{SocketAddr}
+use Rattle.chain_engine.specs.Automation.{Answer, Exchange, takes_in, answers_in, bytes_in, bytes_of}
 use Rattle.chain_engine.specs.declared.automation.Taken.{Taken}
 use Rattle.chain_engine.specs.declared.automation.Taken.TheVariants.{Bytes, Nothing, Ended, Failed}
 use Rattle.chain_engine.proofs.ExchangeLemmas.{takes_both, answers_both_in}
 use Rattle.automations.specs.ScriptAnswers.{are_given, given_both}
 use Rattle.automations.specs.declared.calls.ReadCounts.{ReadCounts}
 use Rattle.automations.specs.declared.connection.Connection.{Connection}
-use Rattle.automations.specs.Calls.{HasRead, FoundNothing, FailedToRead}
+use Rattle.automations.specs.Calls.{HasRead, FoundNothing, FailedToRead, no_reads, no_writes}
+
+-- THE ADDRESS of a port of 127.0.0.1: of this machine alone
+abbrev pub IsLoopback : IpAddr → Type 0
+IsLoopback (ip.V4 a) = ipv4_octets a ≡ 127 ∷ 0 ∷ 0 ∷ 1 ∷ []
+IsLoopback (ip.V6 a) = ⊥
+
+abbrev pub IsLocalPort : SocketAddr → ℕ → Type 0
+IsLocalPort address port = IsLoopback (socket_ip address) × IsPlainSocket address port
+
+-- A connection was asked for nothing yet, and its first take asks the client.
+pub record IsUnasked {R W : Type 0} (c : Connection R W) : Type 0 where
+  pub quiet : c.quiet ≡ 0
+  pub reads : c.requests.counts ≡ no_reads
+  pub writes : c.replies.counts ≡ no_writes
+  pub failures : c.failures ≡ 0
 
 -- bytes come off the front of those that the stream has left; it has none at the end, and else keeps them
 abbrev pub IsTakenFrom : Option (List ℕ) → Option (List ℕ) → List ℕ → Taken → Type 0

@@ -5,6 +5,7 @@ pub mod ScriptAnswers
 pub mod ScriptExchanges
 pub mod ScriptLineFaults
 pub mod ScriptLines
+pub mod ScriptMemory
 pub mod ScriptReading
 pub mod ScriptTakes
 pub mod ScriptText

@@ -1,7 +1,7 @@
 -- What a script gives and is answered: from one state of it to a later one.
-use Rattle.std.specs.Prelude.{◌≡◌, ℕ, true, List, [], ◌++◌, Option}
+use Rattle.std.specs.Prelude.{ℕ, List, [], ◌++◌, Option}
 use Rattle.std.proofs.Common.{sym, subst}
-use Rattle.chain_engine.specs.Automation.{Take, Answer, Exchange, takes_in, answers_in}
+use Rattle.chain_engine.specs.Automation.{Exchange, takes_in, answers_in}
 use Rattle.chain_engine.proofs.ExchangeLemmas.{takes_both, answers_both_in}
 use Rattle.automations.specs.ScriptTakes.{ScriptTakes, ScriptTakes-refl, ScriptTakes-trans}
 use Rattle.automations.specs.ScriptAnswers.{ScriptAnswers, ScriptAnswers-refl, ScriptAnswers-trans}

@@ -78,6 +78,12 @@ pub record IsScriptRead {M : Type 0} (r : Reading M) (text : List ℕ) : Type 0 
   pub reading : IsReading r
   pub text_is : IsTextAt r.bytes.items r.lines.items r.place text
 
+-- nothing was read between these two
+pub record IsSameReading {M : Type 0} (old new : Reading M) : Type 0 where
+  pub bytes : new.bytes.items ≡ old.bytes.items
+  pub lines : new.lines.items ≡ old.lines.items
+  pub place : new.place ≡ old.place
+
 -- WHERE THE READING STOPPED in this text: it stands behind what it has read of it, and the byte that comes next is at fault
 pub record StoppedIn {M : Type 0} (r : Reading M) (text : List ℕ) : Type 0 where
   pub read : List ℕ

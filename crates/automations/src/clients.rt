@@ -79,6 +79,8 @@ where
     pub fn new(listener: &'a L) -> Clients<'a, L>
         ensures unsent { unsent result.letter ≡ [] }
         ensures closed { result.closed ≡ 0 }
+        ensures quiet { result.quiet ≡ 0 }
+        ensures asked { result.door.asked ≡ 0 }
     {
         Clients {
             door: Door {

@@ -1,9 +1,10 @@
 //! An automation on a connection: a client of a port of this machine.
 
-ghost use Rattle.std.specs.Prelude.{◌≡◌, false};
+ghost use Rattle.std.specs.Prelude.{◌≡◌, false, IfSome};
 ghost use Rattle.std.specs.Bool.{OnTrue};
 ghost use Rattle.std.specs.Io.KnownBytes.{Appends};
 ghost use Rattle.automations.specs.Calls.{LosesReply};
+ghost use Rattle.automations.specs.Connections.{IsLocalPort, IsUnasked};
 
 use crate::calls::{Replies, Requests, is_nothing};
 use crate::sessions::Sessions;
@@ -117,13 +118,20 @@ pub(crate) fn send<W: Write>(stream: &mut Replies<W>, bytes: &[u8]) -> bool
     rest.is_empty()
 }
 
+/// The address of a port of 127.0.0.1.
+fn address_of(port: u16) -> SocketAddr
+    ensures { IsLocalPort result port }
+{
+    SocketAddr::from(([127, 0, 0, 1], port))
+}
+
 /// Listens on a port of 127.0.0.1.
 ///
 /// # Errors
 ///
 /// The system's, where the port cannot be bound.
 pub fn listen<R: Net>(rt: &R, port: u16) -> io::Result<R::Listener> {
-    TcpListener::bind(rt, SocketAddr::from(([127, 0, 0, 1], port)))
+    TcpListener::bind(rt, address_of(port))
 }
 
 /// The two ends of a stream that does not block: requests are read from the one, and replies are written to the other. `None` where it could
@@ -143,6 +151,7 @@ pub(crate) fn ends_of<S: OpenStream + Drop>(stream: S) -> Option<(S, S)> {
 pub fn accept<L: OpenListener>(listener: &L) -> Option<Connection<L::Stream, L::Stream>>
 where
     L::Stream: OpenStream + Drop,
+    ensures { IfSome result IsUnasked }
 {
     let Ok((stream, _)) = listener.accept() else {
         return None;

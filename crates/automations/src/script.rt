@@ -8,6 +8,7 @@ ghost use Rattle.automations.specs.Calls.{OneFlushed, OneFailed};
 ghost use Rattle.automations.specs.Scripts.{ScriptBlamed, reply_line};
 ghost use Rattle.automations.specs.ScriptLines.{GivesLines, count_due, is_late, late_lines};
 ghost use Rattle.automations.specs.ScriptText.{IsNoScript};
+ghost use Rattle.automations.specs.ScriptMemory.{LacksMemory};
 ghost use Rattle.automations.specs.ScriptReading.{IsLoaded, IsReadFrom, IsReadWhole, IsScriptRead, read_lines};
 
 use crate::calls::Replies;
@@ -91,6 +92,8 @@ impl<W> Script<W> {
         W: Drop,
         ensures lines { IfOk result (λ s. IsLoaded s (S.remaining reader.old)) }
         ensures stops { result ≡ Err ScriptFault.BadScript → IfSome (S.remaining reader.old) IsNoScript }
+        ensures memory { result ≡ Err ScriptFault.OutOfMemory
+            → IfSome (S.remaining reader.old) (λ text. (reading : Reading Global) × LacksMemory reading text) }
         ensures blamed { IfErr result (λ f. ScriptBlamed f (S.counts reader.old) (S.counts reader.new)) }
         ensures ended { OnOk result (LastMovedNone (S.counts reader.old) (S.counts reader.new)) }
     {
@@ -114,6 +117,8 @@ impl<W, M: Allocator> Script<W, M> {
         W: Drop,
         ensures lines { IfOk result (λ s. IsLoaded s (S.remaining reader.old)) }
         ensures stops { result ≡ Err ScriptFault.BadScript → IfSome (S.remaining reader.old) IsNoScript }
+        ensures memory { result ≡ Err ScriptFault.OutOfMemory
+            → IfSome (S.remaining reader.old) (λ text. (reading : Reading M) × LacksMemory reading text) }
         ensures blamed { IfErr result (λ f. ScriptBlamed f (S.counts reader.old) (S.counts reader.new)) }
         ensures ended { OnOk result (LastMovedNone (S.counts reader.old) (S.counts reader.new)) }
     {
@@ -198,6 +203,8 @@ pub fn load_into<M: Allocator, S: Source>(
 ) -> Result<(), ScriptFault>
     ensures stops { IsScriptRead reading.old [] → result ≡ Err ScriptFault.BadScript
         → IfSome (S.remaining reader.old) IsNoScript }
+    ensures memory { IsScriptRead reading.old [] → result ≡ Err ScriptFault.OutOfMemory
+        → IfSome (S.remaining reader.old) (LacksMemory reading.new) }
     ensures whole { IsScriptRead reading.old [] → OnOk result (IsReadFrom (S.remaining reader.old) reading.new) }
     ensures blamed { IfErr result (λ f. ScriptBlamed f (S.counts reader.old) (S.counts reader.new)) }
     ensures ended { OnOk result (LastMovedNone (S.counts reader.old) (S.counts reader.new)) }

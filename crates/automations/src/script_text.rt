@@ -6,10 +6,11 @@ ghost use Rattle.std.specs.Char.{is_ascii_digit};
 ghost use Rattle.psi_section.specs.Assembling.{capped};
 ghost use Rattle.hex_digits.specs.Digits.{digit_value};
 ghost use Rattle.automations.specs.Scripts.{IsOfText};
-ghost use Rattle.automations.specs.ScriptReading.{IsAt, IsBehind, IsInLine, IsReading, IsReadOn, IsScriptRead, IsTextAt, IsReadWhole};
+ghost use Rattle.automations.specs.ScriptReading.{IsAt, IsBehind, IsInLine, IsReading, IsReadOn, IsSameReading, IsScriptRead, IsTextAt, IsReadWhole};
 ghost use Rattle.automations.specs.ScriptReading.{BytesSoFar, StoppedIn, read_lines, next_line_number};
 ghost use Rattle.automations.specs.ScriptText.{BeginsNoScript, IsNoScript, SpellsLines};
 ghost use Rattle.automations.specs.ScriptLineFaults.{wrong_at, wrong_byte, wrong_end};
+ghost use Rattle.automations.specs.ScriptMemory.{AsksMemory, AsksForLine, RefusedAt, RefusedAtEnd};
 
 use crate::line_fault::ScriptLineFault;
 use crate::script::ScriptFault;
@@ -55,7 +56,7 @@ pub struct Reading<M: Allocator = Global> {
 fn with_digit(number: u64, digit: u8) -> Result<u64, ScriptFault>
     ensures value { IfOk result (λ v. (is_ascii_digit digit ≡ true) × (v ≡ number * 10 + (digit - 48)) × (v < 2 ^ 64)) }
     ensures none { IfErr result (λ _. is_ascii_digit digit ≡ true → 2 ^ 64 ≤ number * 10 + (digit - 48)) }
-    ensures refused { IfErr result IsOfText }
+    ensures refused { IfErr result (λ fault. fault ≡ ScriptFault.BadScript) }
 {
     let Some(value) = digit.checked_sub(b'0') else {
         return Err(ScriptFault::BadScript);
@@ -104,7 +105,7 @@ fn half(byte: u8) -> Result<u8, ScriptFault>
     ensures value { IfOk result (λ value. digit_value byte ≡ Some value) }
     ensures none { IfErr result (λ _. digit_value byte ≡ None) }
     ensures below { IfOk result (λ value. value < 16) }
-    ensures refused { IfErr result IsOfText }
+    ensures refused { IfErr result (λ fault. fault ≡ ScriptFault.BadScript) }
 {
     match value_of(byte) {
         Some(value) => Ok(value),
@@ -146,6 +147,8 @@ impl<M: Allocator> Reading<M> {
             → OnOk result (SpellsLines 0 (text ++ 10 ∷ []) (read_lines self.new)) }
         ensures empty { result ≡ Err ScriptFault.BadScript → count ≡ 0 }
         ensures same { result ≡ Err ScriptFault.BadScript → self.new ≡ self.old }
+        ensures asks { result ≡ Err ScriptFault.OutOfMemory → 0 < count }
+        ensures kept { IfErr result (λ _. IsSameReading self.old self.new) }
         ensures refused { IfErr result IsOfText }
     {
         if count == 0 {
@@ -166,6 +169,8 @@ impl<M: Allocator> Reading<M> {
         ensures stops { (text : List ℕ) → IsScriptRead self.old text → result ≡ Err ScriptFault.BadScript
             → BeginsNoScript (text ++ byte ∷ []) }
         ensures same { result ≡ Err ScriptFault.BadScript → self.new ≡ self.old }
+        ensures asks { result ≡ Err ScriptFault.OutOfMemory → AsksMemory self.old.place byte }
+        ensures kept { IfErr result (λ _. IsSameReading self.old self.new) }
         ensures refused { IfErr result IsOfText }
     {
         match self.place {
@@ -212,6 +217,7 @@ impl<M: Allocator> Reading<M> {
         ensures read { IfOk result (λ rest. IsReadOn self.old self.new part.now rest.now) }
         ensures shorter { IfOk result (λ rest. length rest.now ≤ length part.now) }
         ensures memory { IfErr result (λ fault. fault ≡ ScriptFault.OutOfMemory) }
+        ensures asks { (text : List ℕ) → IsScriptRead self.old text → IfErr result (λ _. RefusedAt self.new (text ++ part.now)) }
     {
         let Place::Bytes(packet, before) = self.place else {
             return Ok(part);
@@ -245,6 +251,8 @@ impl<M: Allocator> Reading<M> {
             → BeginsNoScript (text ++ part.now) }
         ensures stopped { (text : List ℕ) → IsScriptRead self.old text → result ≡ Err ScriptFault.BadScript
             → StoppedIn self.new (text ++ part.now) }
+        ensures memory { (text : List ℕ) → IsScriptRead self.old text → result ≡ Err ScriptFault.OutOfMemory
+            → RefusedAt self.new (text ++ part.now) }
         ensures refused { IfErr result IsOfText }
     {
         let mut rest = part;
@@ -272,6 +280,8 @@ impl<M: Allocator> Reading<M> {
     pub fn finish(&mut self) -> Result<(), ScriptFault>
         ensures ok { (text : List ℕ) → IsScriptRead self.old text → OnOk result (IsReadWhole self.new text) }
         ensures stops { (text : List ℕ) → IsScriptRead self.old text → result ≡ Err ScriptFault.BadScript → IsNoScript text }
+        ensures memory { (text : List ℕ) → IsScriptRead self.old text → result ≡ Err ScriptFault.OutOfMemory
+            → RefusedAtEnd self.new text }
         ensures refused { IfErr result IsOfText }
     {
         match self.place {

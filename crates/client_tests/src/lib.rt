@@ -6,3 +6,7 @@
 mod channel;
 #[cfg(test)]
 mod client_tests;
+#[cfg(test)]
+mod hall;
+#[cfg(test)]
+mod hall_tests;

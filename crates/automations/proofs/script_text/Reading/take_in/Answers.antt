@@ -1,7 +1,9 @@
 use Rattle.std.proofs.Common.{◌≡◌, ◌++◌, ◌∷◌, [], refl, subst, sym, ◌∙◌, ap, append_assoc, rules}
-use Rattle.automations.specs.ScriptReading.{IsScriptRead, IsTextAt, StoppedIn}
+use Rattle.automations.specs.ScriptReading.{IsScriptRead, IsTextAt}
 use Rattle.std.specs.Prelude.{Err}
-use Rattle.automations.specs.declared.script.ScriptFault.TheVariants.{BadScript}
+use Rattle.automations.specs.declared.script.ScriptFault.TheVariants.{BadScript, OutOfMemory}
+use Rattle.automations.specs.ScriptMemory.{AsksMemory}
+use Rattle.automations.proofs.MemoryLemmas.{same_read}
 use Rattle.automations.specs.ScriptText.{BeginsNoScript}
 use Rattle.automations.proofs.StopLemmas.{stops_behind}
 use Rattle.automations.proofs.script_text.Reading.take_in.Goals as goal
@@ -52,4 +54,21 @@ returns-in-Err-clause-stopped g c = λ text h bad.
       text_is = ap (λ l. text ++ l) (e ∙ ap (λ l. done ++ l) first) ∙ sym (append_assoc text done (byte ∷ c.in-Some.behind.now));
       stands = record { reading = stood.reading; text_is = stood.text_is };
       bad = refl;
+    }
+
+pub returns-in-Err-clause-memory : goal.returns-in-Err-clause-memory
+returns-in-Err-clause-memory g c = λ text h lack.
+    let (done, e, r) = c.loop-byte.invariant.read in
+    let first : c.loop-byte.rest.now ≡ c.in-Some.byte.now ∷ c.in-Some.behind.now = search rules in
+    let byte = c.in-Some.byte.now in
+    let fault : c.in-Err.fault ≡ OutOfMemory = cc in
+    let kept = c.in-Err.ensures.kept in
+    let stood = same_read c.loop-byte.self c.behind.new.self (text ++ done) kept (r text h) in
+    record {
+      read = text ++ done;
+      byte = byte;
+      rest = c.in-Some.behind.now;
+      text_is = ap (λ l. text ++ l) (e ∙ ap (λ l. done ++ l) first) ∙ sym (append_assoc text done (byte ∷ c.in-Some.behind.now));
+      stands = record { reading = stood.reading; text_is = stood.text_is };
+      asks = subst (λ p. AsksMemory p byte) (sym kept.place) (c.in-Err.ensures.asks (ap Err fault));
     }
