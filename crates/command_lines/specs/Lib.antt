@@ -5,3 +5,4 @@ pub mod Plans
 pub mod Inspecting
 pub mod Requests
 pub mod Faults
+pub mod Naming

@@ -6,13 +6,10 @@ ghost use Rattle.command_lines.specs.Command.{IsRefused, shown};
 ghost use Rattle.command_lines.specs.Options.{IsCutOf, IsNoCut};
 
 use crate::given::{end_of, is_verbose, text_of};
-use crate::inject_options::{INJECT, RUN};
 use crate::inspect_options::inspect_command;
-use crate::plan_options::PLAN;
 use crate::request_help::request_command;
-use crate::services_options::SERVICES;
-use crate::splice_options::SPLICE;
 use crate::subcommand::{Subcommand, ValueOption};
+use crate::subcommands;
 use clap::{ArgMatches, Command};
 use decimal_numbers::number_below;
 use pes_time::Time33;
@@ -190,7 +187,7 @@ const CUT_OPTIONS: [ValueOption; 5] = [
     },
 ];
 
-const CUT: Subcommand = Subcommand {
+pub(crate) const CUT: Subcommand = Subcommand {
     name: "cut",
     about: CUT_ABOUT,
     long_about: CUT_LONG_ABOUT,
@@ -211,14 +208,14 @@ pub fn command<'a>(alloc: Global) -> Result<Command<'a>, AllocError> {
         .version("0.1.0")
         .no_binary_name(true)
         .subcommand_required(true)
-        .subcommand(CUT.command(alloc)?)?
-        .subcommand(INJECT.on_air(alloc)?)?
-        .subcommand(SPLICE.on_air(alloc)?)?
-        .subcommand(RUN.on_air(alloc)?)?
-        .subcommand(SERVICES.on_air(alloc)?)?
+        .subcommand(subcommands::cut().command(alloc)?)?
+        .subcommand(subcommands::inject().on_air(alloc)?)?
+        .subcommand(subcommands::splice().on_air(alloc)?)?
+        .subcommand(subcommands::run().on_air(alloc)?)?
+        .subcommand(subcommands::services().on_air(alloc)?)?
         .subcommand(inspect_command(alloc)?)?
         .subcommand(request_command(alloc)?)?
-        .subcommand(PLAN.silent(alloc)?)
+        .subcommand(subcommands::plan().silent(alloc)?)
 }
 
 /// The numbers of a cut: its PID, its start and its length. The first of them that is not in its range is answered.

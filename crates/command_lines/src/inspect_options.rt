@@ -10,6 +10,7 @@ use crate::command::{BadNumber, NumberOption};
 use crate::given::is_verbose;
 use crate::inject_options::NUMBER_LIMIT;
 use crate::subcommand::{Subcommand, ValueOption, flag};
+use crate::subcommands;
 use clap::{ArgMatches, Command};
 use decimal_numbers::number_within;
 use run_ends::End;
@@ -57,7 +58,7 @@ const INSPECT_OPTIONS: [ValueOption; 2] = [
     },
 ];
 
-const INSPECT: Subcommand = Subcommand {
+pub(crate) const INSPECT: Subcommand = Subcommand {
     name: "inspect",
     about: INSPECT_ABOUT,
     long_about: INSPECT_LONG_ABOUT,
@@ -79,7 +80,10 @@ pub(crate) fn inspect_command<'a>(alloc: Global) -> Result<Command<'a>, AllocErr
         "json",
         "Write one JSON object in place of the page (docs/INSPECT.md says its keys)",
     );
-    INSPECT.command(alloc)?.arg(points)?.arg(json)
+    subcommands::inspect()
+        .command(alloc)?
+        .arg(points)?
+        .arg(json)
 }
 
 /// What `inspect` is to do.

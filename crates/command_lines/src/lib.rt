@@ -16,4 +16,5 @@ pub mod request_options;
 pub mod services_options;
 pub mod splice_options;
 mod subcommand;
+mod subcommands;
 pub mod words;

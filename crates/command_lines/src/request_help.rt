@@ -1,6 +1,7 @@
 //! The subcommand `request`, its kinds, and their help.
 
 use crate::subcommand::{Subcommand, ValueOption};
+use crate::subcommands;
 use clap::Command;
 use std::alloc::{AllocError, Global};
 
@@ -119,7 +120,7 @@ const AUTO_RETURN: ValueOption = ValueOption {
     is_required: false,
 };
 
-const START: Subcommand = Subcommand {
+pub(crate) const START: Subcommand = Subcommand {
     name: "start",
     about: "Asks for a break, in which an advertisement is to play",
     long_about: "Asks for a break, in which an advertisement is to play: a splice_request of splice_insert_type 1 (start normal).",
@@ -143,7 +144,7 @@ const START: Subcommand = Subcommand {
     verbose: "",
 };
 
-const END: Subcommand = Subcommand {
+pub(crate) const END: Subcommand = Subcommand {
     name: "end",
     about: "Asks for the early end of a break",
     long_about: "Asks for the early end of a break: a splice_request of splice_insert_type 3 (end normal).",
@@ -155,7 +156,7 @@ const END: Subcommand = Subcommand {
     verbose: "",
 };
 
-const CANCEL: Subcommand = Subcommand {
+pub(crate) const CANCEL: Subcommand = Subcommand {
     name: "cancel",
     about: "Cancels a break that has not started",
     long_about: "Cancels a break that has not started: a splice_request of splice_insert_type 5 (cancel).",
@@ -167,7 +168,7 @@ const CANCEL: Subcommand = Subcommand {
     verbose: "",
 };
 
-const INIT: Subcommand = Subcommand {
+pub(crate) const INIT: Subcommand = Subcommand {
     name: "init",
     about: "Begins a session: an init_request",
     long_about: "Begins a session: an init_request, which is answered by an init_response.",
@@ -179,7 +180,7 @@ const INIT: Subcommand = Subcommand {
     verbose: "",
 };
 
-const ALIVE: Subcommand = Subcommand {
+pub(crate) const ALIVE: Subcommand = Subcommand {
     name: "alive",
     about: "Asks whether the session lives: an alive_request",
     long_about: "Asks whether the session lives: an alive_request without data, which is answered by an alive_response.",
@@ -206,9 +207,9 @@ pub(crate) fn request_command<'a>(alloc: Global) -> Result<Command<'a>, AllocErr
     REQUEST
         .silent(alloc)?
         .subcommand_required(true)
-        .subcommand(START.silent(alloc)?)?
-        .subcommand(END.silent(alloc)?)?
-        .subcommand(CANCEL.silent(alloc)?)?
-        .subcommand(INIT.silent(alloc)?)?
-        .subcommand(ALIVE.silent(alloc)?)
+        .subcommand(subcommands::start().silent(alloc)?)?
+        .subcommand(subcommands::end().silent(alloc)?)?
+        .subcommand(subcommands::cancel().silent(alloc)?)?
+        .subcommand(subcommands::init().silent(alloc)?)?
+        .subcommand(subcommands::alive().silent(alloc)?)
 }
