@@ -1,9 +1,14 @@
 //! Whole runs of several services on air that are looked at between their packets.
 
-ghost use Rattle.std.specs.Prelude.{◌≡◌, ℕ, List, [], length, Some, false, IfOk, IfErr};
+ghost use Rattle.std.specs.Prelude.{◌≡◌, ℕ, List, [], ◌++◌, length, Option, Some, false, IfOk, IfErr};
 ghost use Rattle.psi_tables.specs.declared.config.Config.{Config};
 ghost use Rattle.on_air.specs.Plain.{IsOfDevices};
+ghost use Rattle.service_laws.specs.Services.{ServiceTerms, configs_of};
+ghost use Rattle.chain_engine.specs.Runs.{Exchanged};
+ghost use Rattle.chain_services.specs.Serving.{FiledAs};
 ghost use Rattle.services_on_air.specs.Standing.{AirServicesStandFor, TellsServices};
+ghost use Rattle.services_on_air.specs.Serving.{AirServicesBegin};
+ghost use Rattle.services_on_air.specs.Outputs.{ServicesOnAir};
 
 use crate::occurrence::What;
 use crate::tracker::{Taken, Tracker};
@@ -211,6 +216,11 @@ where
     requires { P.is_broken network.old ≡ false }
     ensures stretches { (cs : List Config) (bs : List ℕ) → AirServicesStandFor services cs [] → length libraries.now ≡ length cs
         → P.left network.old ≡ Some bs → IfOk result (λ told. TellsServices told cs bs) }
+    ensures out { (ts : List ServiceTerms) (start : Option (List ℕ)) (before : List (List ℕ)) (bs : List ℕ)
+        → AirServicesStandFor services (configs_of ts) [] → AirServicesBegin services (configs_of ts) → FiledAs libraries.now ts
+        → K.holds out.old start before → P.left network.old ≡ Some bs
+        → IfOk result (λ told. (later : U) × ServicesOnAir ts bs (λ ps. K.holds out.new start (before ++ ps))
+        (Exchanged U.exchanges U.failures automation.old later) told) }
     ensures devices { IfErr result IsOfDevices }
 {
     if !listener.is_on() {

@@ -106,18 +106,20 @@ impl<W: Watch, M: Allocator> Hearing<W, M> {
     }
 }
 
-/// An automation that does what it does alone, and of which each request is told with its verdict.
+/// An automation that does what it does alone, and of which each request is told with its verdict, where that is asked for.
 #[derive(Drop)]
 pub struct HeardAutomation<'a, U, W, M: Allocator = Global> {
     inner: &'a mut U,
     hearing: &'a mut Hearing<W, M>,
+    /// What comes of it is told as it comes.
+    is_detailed: bool,
     /// How many takes there were, modulo 2⁶⁴: the number of the packet that comes next.
     packet: u64,
     /// How many sessions the automation has ended for a size that no message has, of which was told.
     closed: u64,
 }
 
-impl<'a, U, W, M: Allocator> HeardAutomation<'a, U, W, M> {
+impl<'a, U, W: Watch, M: Allocator> HeardAutomation<'a, U, W, M> {
     ghost use Rattle.std.specs.Prelude.{◌≡◌};
 
     /// This automation, before its first take, and who is told; of each request, where its messages are overheard.
@@ -125,9 +127,11 @@ impl<'a, U, W, M: Allocator> HeardAutomation<'a, U, W, M> {
         ensures same { result.inner.ghost_name ≡ inner.entry.ghost_name }
         ensures inner { result.inner.now ≡ inner.old }
     {
+        let is_detailed = hearing.watch.is_detailed();
         HeardAutomation {
             inner,
             hearing,
+            is_detailed,
             packet: 0,
             closed: 0,
         }
@@ -199,6 +203,9 @@ impl<U: Automation + Sessions, W: Watch, M: Allocator> Automation for HeardAutom
     #[inline(always)]
     fn take(&mut self, room: &mut [u8]) -> Taken {
         let taken = self.inner.take(room);
+        if !self.is_detailed {
+            return taken;
+        }
         self.packet = self.packet.wrapping_add(1);
         let closed = self.inner.closed();
         if closed > self.closed {

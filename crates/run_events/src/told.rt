@@ -115,10 +115,10 @@ impl Sight {
     /// Looks at a stage behind a packet behind which something may have changed.
     #[inline(never)]
     fn look_closely<S: BreakStage, W: Watch>(&mut self, stage: &S, packet: &Packet, watch: &mut W) {
+        self.turns = stage.turns();
         if !self.is_on {
             return;
         }
-        self.turns = stage.turns();
         let has_news = self.is_detailed && (watch.takes_news() || stage.is_cue(packet));
         if has_news || packet.unit_start() {
             let packet = Some(packet);

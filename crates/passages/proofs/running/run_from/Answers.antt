@@ -11,7 +11,7 @@ use Rattle.passages.proofs.running.run_from.Goals as goal
 pub returns-clause-done : goal.returns-clause-done
 returns-clause-done g c =
     let left : reader_remaining (λ a. g.R.Read.remaining a.inner) c.new-packets.result.source.now.device.inner ≡ g.R.Read.remaining c.args.input =
-    rw (c.new-packets.ensures.source, c.network_of-network.ensures.inner, c.in-Ok.ensures.capacity, c.in-Ok.ensures.empty, c.in-Ok.ensures.inner, c.new.ensures) (read_none (g.R.Read.remaining c.args.input)) in
+    rw (c.new-packets.ensures.source, c.network_of-network.ensures.inner, c.in-Ok.ensures.capacity, c.in-Ok.ensures.empty, c.in-Ok.ensures.inner, c.new.ensures.inner) (read_none (g.R.Read.remaining c.args.input)) in
     let passes = g.S.Passage.passes c.args.passage c.args.asker.now c.run_to.new.asker in
     let is_out = Written (g.O.Write.contents c.run_to.new.output) (g.O.Write.contents c.args.output.now) in
     told_ok c.in-Ok-run_to.ended.outcome c.told.result (PassesAll passes (g.R.Read.remaining c.args.input) is_out) _ c.told.ensures.done c.told.ensures.fault
@@ -20,7 +20,7 @@ returns-clause-done g c =
 pub returns-clause-stopped : goal.returns-clause-stopped
 returns-clause-stopped g c =
     let left : reader_remaining (λ a. g.R.Read.remaining a.inner) c.new-packets.result.source.now.device.inner ≡ g.R.Read.remaining c.args.input =
-    rw (c.new-packets.ensures.source, c.network_of-network.ensures.inner, c.in-Ok.ensures.capacity, c.in-Ok.ensures.empty, c.in-Ok.ensures.inner, c.new.ensures) (read_none (g.R.Read.remaining c.args.input)) in
+    rw (c.new-packets.ensures.source, c.network_of-network.ensures.inner, c.in-Ok.ensures.capacity, c.in-Ok.ensures.empty, c.in-Ok.ensures.inner, c.new.ensures.inner) (read_none (g.R.Read.remaining c.args.input)) in
     let stops = g.S.Passage.stops c.args.passage c.args.asker.now c.run_to.new.asker in
     let start = g.O.Write.contents c.args.output.now in
     let now = g.O.Write.contents c.run_to.new.output in

@@ -9,7 +9,7 @@ pub returns : goal.returns
 returns g c =
     let start = g.O.Write.contents c.args.output in
     let held : (c.new-writer.result.is_broken ≡ false) × IfSome start (λ bs. append_known (g.O.Write.contents c.new-writer.result.target.now.inner.inner) c.new-writer.result.target.now.buffer.items ≡ Some (bs ++ bytes_of [])) =
-    (c.new-writer.ensures.whole, rw (c.new-writer.ensures.target, c.new-target.ensures.inner, c.new-target.ensures.buffer, c.new.ensures, c.requires.empty) (buffered_none start bytes_of refl)) in
+    (c.new-writer.ensures.whole, rw (c.new-writer.ensures.target, c.new-target.ensures.inner, c.new-target.ensures.buffer, c.new.ensures.inner, c.requires.empty) (buffered_none start bytes_of refl)) in
     let done = c.pass_watched-outcome.ensures.done start held in
     let named = c.pass_watched-outcome.ensures.leads.0 ∙ c.new-writer.ensures.same in
     let inner = c.into_parts-below.ensures.inner in
