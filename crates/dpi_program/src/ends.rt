@@ -1,15 +1,58 @@
 //! The ends of a run: the network that it reads, where its packets go, and where the lines of its log go.
 
-ghost use Rattle.std.specs.Prelude.{◌≡◌, None, IfOk, IfErr, is_some};
+ghost use Rattle.std.specs.Prelude.{◌≡◌, None, false, is_some, map, option_copied, IfOk, IfErr};
 ghost use Rattle.run_ends.specs.Ends.{path_of};
+ghost use Rattle.dpi_program.specs.Ends.{IsOpened, IsMade, IsLogMade};
 
 use passages::fault::ProgramFault;
-use passages::running::{stopped, unopened};
+use passages::running::stopped;
 use passages::tell::{Side, Stopped};
-use run_ends::{End, Unopened, create_beside, open_input};
+use run_ends::{End, create_beside, open_input};
 use std::fs::{self, Metadata};
 use std::io::{self, Write};
 use std::rt::Files;
+
+/// Opens the files of a run, so that a proof knows by which path each of them was opened.
+pub trait RunFiles: Files {
+    ghost use Rattle.std.specs.Prelude.{ℕ, List, Option, IfOk, option_copied, map};
+    ghost use Rattle.std.specs.declared.fs.attrs.Metadata.{Metadata};
+
+    /// By this path the file was opened to be read, and so the system described it.
+    ghost reads_at: { List ℕ → Self.File → Metadata → Type 0 };
+
+    /// By this path the file was made to be written, beside those that the system described so.
+    ghost makes_at: { List ℕ → List (Option Metadata) → Self.File → Type 0 };
+
+    /// Opens a file to read, as [`open_input`] does.
+    ///
+    /// # Errors
+    ///
+    /// As for `open_input`.
+    fn open_at(&self, path: &str) -> io::Result<(Self::File, Metadata)>
+        ensures { IfOk result (λ opened. reads_at path.now opened.0 opened.1) };
+
+    /// Makes a file to write, as [`create_beside`] does.
+    ///
+    /// # Errors
+    ///
+    /// As for `create_beside`.
+    fn make_at(&self, path: &str, others: &[Option<&Metadata>]) -> io::Result<Self::File>
+        ensures { IfOk result (makes_at path.now (map option_copied others.now)) };
+}
+
+impl<R: Files> RunFiles for R {
+    ghost reads_at = { λ path file about. Unit {0} };
+
+    ghost makes_at = { λ path others file. Unit {0} };
+
+    fn open_at(&self, path: &str) -> io::Result<(R::File, Metadata)> {
+        open_input(self, path)
+    }
+
+    fn make_at(&self, path: &str, others: &[Option<&Metadata>]) -> io::Result<R::File> {
+        create_beside(self, path, others)
+    }
+}
 
 /// The network of a run.
 #[derive(Drop)]
@@ -32,10 +75,15 @@ impl<F> Network<F> {
 /// # Errors
 ///
 /// `File` where the file could not be opened.
-pub(crate) fn open_network<R: Files>(rt: &R, network: End<'_>) -> Result<Network<R::File>, Stopped>
-    ensures file { IfOk result (λ opened. is_some opened.file ≡ is_some (path_of network.entry)) }
+pub(crate) fn open_network<R: RunFiles>(
+    rt: &R,
+    network: End<'_>,
+) -> Result<Network<R::File>, Stopped>
+    ensures opened { IfOk result (λ n. IsOpened R.reads_at network.entry n.file n.about) }
+    ensures file { IfOk result (λ n. is_some n.file ≡ is_some (path_of network.entry)) }
     ensures fault { IfErr result (λ stopped. stopped.fault ≡ ProgramFault.File) }
     ensures side { IfErr result (λ stopped. stopped.side ≡ Side.Reading) }
+    ensures unflushed { IfErr result (λ stopped. stopped.is_flushed ≡ false) }
 {
     let Some(path) = network.path() else {
         return Ok(Network {
@@ -43,68 +91,66 @@ pub(crate) fn open_network<R: Files>(rt: &R, network: End<'_>) -> Result<Network
             about: None,
         });
     };
-    match open_input(rt, path) {
+    match rt.open_at(path) {
         Ok((file, about)) => Ok(Network {
             file: Some(file),
             about: Some(about),
         }),
-        Err(reason) => Err(unopened(Unopened::Input(reason))),
+        Err(reason) => Err(stopped(ProgramFault::File, Side::Reading, Some(reason))),
     }
 }
 
-/// What a run writes to.
+/// Makes the file where packets go, unless it is one of the others.
+///
+/// # Errors
+///
+/// `File` where the file could not be made, or is one of the others.
+pub(crate) fn make_output<R: RunFiles>(
+    rt: &R,
+    output: End<'_>,
+    others: &[Option<&Metadata>],
+) -> Result<R::File, Stopped>
+    ensures made { IfOk result (IsMade R.makes_at output.entry (map option_copied others.now)) }
+    ensures fault { IfErr result (λ stopped. stopped.fault ≡ ProgramFault.File) }
+    ensures side { IfErr result (λ stopped. stopped.side ≡ Side.Writing) }
+    ensures unflushed { IfErr result (λ stopped. stopped.is_flushed ≡ false) }
+{
+    let path = output.path().unwrap_or("");
+    match rt.make_at(path, others) {
+        Ok(file) => Ok(file),
+        Err(reason) => Err(stopped(ProgramFault::File, Side::Writing, Some(reason))),
+    }
+}
+
+/// What the lines of a log are written to.
 #[derive(Drop)]
-pub(crate) enum OutputEnd<F, W> {
+pub(crate) enum LinesEnd<F, W> {
     /// A file.
     File(F),
     /// A standard stream.
     Standard(W),
 }
 
-impl<F: Write, W: Write> Write for OutputEnd<F, W> {
+impl<F: Write, W: Write> Write for LinesEnd<F, W> {
     fn write(&mut self, buf: &[u8]) -> io::Result<usize> {
         match self {
-            OutputEnd::File(file) => file.write(buf),
-            OutputEnd::Standard(stream) => stream.write(buf),
+            LinesEnd::File(file) => file.write(buf),
+            LinesEnd::Standard(stream) => stream.write(buf),
         }
     }
 
     fn flush(&mut self) -> io::Result<()> {
         match self {
-            OutputEnd::File(file) => file.flush(),
-            OutputEnd::Standard(stream) => stream.flush(),
+            LinesEnd::File(file) => file.flush(),
+            LinesEnd::Standard(stream) => stream.flush(),
         }
-    }
-}
-
-/// Opens where packets go: the standard stream where there is one, else the file that an option names, unless it is one of the others.
-///
-/// # Errors
-///
-/// `File` where the file could not be made, or is one of the others.
-pub(crate) fn open_output<R: Files, W: Drop>(
-    rt: &R,
-    output: End<'_>,
-    standard: Option<W>,
-    others: &[Option<&Metadata>],
-) -> Result<OutputEnd<R::File, W>, Stopped>
-    ensures fault { IfErr result (λ stopped. stopped.fault ≡ ProgramFault.File) }
-    ensures side { IfErr result (λ stopped. stopped.side ≡ Side.Writing) }
-{
-    if let Some(stream) = standard {
-        return Ok(OutputEnd::Standard(stream));
-    }
-    let path = output.path().unwrap_or("");
-    match create_beside(rt, path, others) {
-        Ok(file) => Ok(OutputEnd::File(file)),
-        Err(reason) => Err(unopened(Unopened::Output(reason))),
     }
 }
 
 /// Where the lines of a log go, where there is one.
 #[derive(Drop)]
 pub(crate) struct LogEnd<F, W> {
-    pub(crate) end: Option<OutputEnd<F, W>>,
+    pub(crate) end: Option<LinesEnd<F, W>>,
     /// What the system says of the file.
     pub(crate) about: Option<Metadata>,
 }
@@ -114,15 +160,18 @@ pub(crate) struct LogEnd<F, W> {
 /// # Errors
 ///
 /// `File` where the file could not be made, or is one of the others.
-pub(crate) fn open_log<R: Files, W: Drop>(
+pub(crate) fn open_log<R: RunFiles, W: Drop>(
     rt: &R,
     events: End<'_>,
     standard: W,
     others: &[Option<&Metadata>],
 ) -> Result<LogEnd<R::File, W>, Stopped>
     ensures none { events.entry ≡ End.Lines → IfOk result (λ log. log.end ≡ None) }
+    ensures made { IfOk result (λ log. IsLogMade R.makes_at events.entry (map option_copied others.now)
+        log.end) }
     ensures fault { IfErr result (λ stopped. stopped.fault ≡ ProgramFault.File) }
     ensures side { IfErr result (λ stopped. stopped.side ≡ Side.Telling) }
+    ensures unflushed { IfErr result (λ stopped. stopped.is_flushed ≡ false) }
 {
     match events {
         End::Lines => Ok(LogEnd {
@@ -130,12 +179,12 @@ pub(crate) fn open_log<R: Files, W: Drop>(
             about: None,
         }),
         End::Standard => Ok(LogEnd {
-            end: Some(OutputEnd::Standard(standard)),
+            end: Some(LinesEnd::Standard(standard)),
             about: None,
         }),
-        End::File(path) => match create_beside(rt, path, others) {
+        End::File(path) => match rt.make_at(path, others) {
             Ok(file) => Ok(LogEnd {
-                end: Some(OutputEnd::File(file)),
+                end: Some(LinesEnd::File(file)),
                 about: fs::metadata(rt, path).ok(),
             }),
             Err(reason) => Err(stopped(ProgramFault::File, Side::Telling, Some(reason))),

@@ -1,12 +1,16 @@
 //! The subcommands `inject` and `run`: a run with cues, or with cues and advertisements, between the ends that its options name.
 
-ghost use Rattle.std.specs.Prelude.{◌≡◌, false, IfOk};
+ghost use Rattle.std.specs.Prelude.{◌≡◌, None, IfSome, IsSome, is_some, false, IfOk, IfErr, OnOk};
 ghost use Rattle.ts_packet.specs.Sinks.{Written};
-ghost use Rattle.passages.specs.Runs.{AskerTells};
-ghost use Rattle.dpi_program.specs.Runs.{Injects};
+ghost use Rattle.run_ends.specs.Ends.{path_of};
+ghost use Rattle.automations.specs.ScriptReading.{IsLoaded};
+ghost use Rattle.passages.specs.Runs.{AskerTells, lost_replies};
+ghost use Rattle.dpi_program.specs.Runs.{known_from, Injects, InjectsAndPrints};
+ghost use Rattle.dpi_program.specs.Inputs.{IsAskerAt, AsksElsewhere, IsLibraryIfAsked, AreInjectInputs};
+ghost use Rattle.dpi_program.specs.Commands.{InjectsBetween, InjectsToFile};
 
 use crate::counting::air_counts;
-use crate::ends::{LogEnd, open_log, open_network, open_output};
+use crate::ends::{LogEnd, Network, RunFiles, make_output, open_log, open_network};
 use crate::sharing::Sharing;
 use crate::splicing::open_library;
 use crate::telling::{hearing_of, overheard_of, tell_fault, telling_of, warnings_of, with_late};
@@ -30,14 +34,13 @@ use passages::running::{Ran, run_from, stopped, with_replies};
 use passages::tell::{CueAccount, LineAbout, Side, Stopped};
 use passages::watch::Watch;
 use report_texts::AirCounts;
-use run_ends::{Attended, open_input};
+use run_ends::{Attended, End};
 use run_events::Hearing;
 use std::alloc::Global;
 use std::cell::RefCell;
 use std::fs::Metadata;
 use std::io::{Read, Write};
 use std::net::{Net, OpenListener, OpenStream};
-use std::rt::Files;
 use ts_packet::Device;
 
 /// What a run with cues that went through has done.
@@ -62,7 +65,9 @@ fn injected_with(
     air: Option<AirCounts>,
     seen: Option<(Watch, Watch)>,
 ) -> Injected
-    ensures { result.report ≡ report }
+    ensures report { result.report ≡ report }
+    ensures plays { result.plays ≡ is_some options.now.adverts }
+    ensures air { result.air ≡ air }
 {
     let plays = options.adverts.is_some();
     let account = match seen {
@@ -103,6 +108,9 @@ where
     H: run_events::Watch + Copy + Drop,
     ensures done { IfOk result (λ injected. Injects options.now.config library (R.remaining input)
         (Written (O.contents output.new) (O.contents output.old)) (AskerTells W.contents asker.old asker.new) injected.report) }
+    ensures printed { OnOk result (lost_replies asker.new ≡ 0) }
+    ensures plays { IfOk result (λ injected. injected.plays ≡ is_some options.now.adverts) }
+    ensures plain { IfOk result (λ injected. injected.air ≡ None) }
 {
     let watched = options.is_verbose.then_some(options.config.cue_pid);
     let ran = match &library {
@@ -146,6 +154,8 @@ where
     A: AirWatch,
     H: run_events::Watch + Copy + Drop,
     V: RecoveryWatch + Drop,
+    ensures printed { OnOk result (lost_replies asker.new ≡ 0) }
+    ensures plays { IfOk result (λ injected. injected.plays ≡ is_some options.now.adverts) }
 {
     let watched = options.is_verbose.then_some(options.config.cue_pid);
     let ran = match &library {
@@ -199,6 +209,9 @@ where
     E: Write,
     ensures done { options.now.is_on_air ≡ false → IfOk result (λ injected. Injects options.now.config library (R.remaining input)
         (Written (O.contents output.new) (O.contents output.old)) (AskerTells W.contents asker.old asker.new) injected.report) }
+    ensures printed { OnOk result (lost_replies asker.new ≡ 0) }
+    ensures plays { IfOk result (λ injected. injected.plays ≡ is_some options.now.adverts) }
+    ensures plain { options.now.is_on_air ≡ false → IfOk result (λ injected. injected.air ≡ None) }
 {
     if !options.is_on_air {
         return run_asked(
@@ -229,7 +242,10 @@ fn script_from<R: Read + Drop, W: Drop>(
     alloc: Global,
     reader: R,
     replies: W,
-) -> Result<Script<W>, Stopped> {
+) -> Result<Script<W>, Stopped>
+    ensures loaded { IfOk result (λ script. IsLoaded script (R.remaining reader)) }
+    ensures unflushed { IfErr result (λ stopped. stopped.is_flushed ≡ false) }
+{
     let mut reading = Reading::new_in(alloc);
     let mut reader = Device::new(Attended::new(reader));
     match load_into(&mut reading, &mut reader) {
@@ -254,9 +270,13 @@ pub(crate) fn open_asker<R, I, W>(
     replies: W,
 ) -> Result<(Asker<W, R::Listener>, Option<Metadata>), Stopped>
 where
-    R: Files + Net + AllocGlobal,
+    R: RunFiles + Net + AllocGlobal,
     I: Read,
     W: Drop,
+    ensures loaded { IfOk result (λ opened. IsAskerAt R.reads_at R.File.Read.remaining asking.entry (I.remaining input.old)
+        opened.0 opened.1) }
+    ensures unread { AsksElsewhere asking.entry → input.new ≡ input.old }
+    ensures unflushed { IfErr result (λ stopped. stopped.is_flushed ≡ false) }
 {
     let end = match asking {
         Asking::Script(end) => end,
@@ -271,7 +291,7 @@ where
             None,
         ));
     };
-    match open_input(rt, path) {
+    match rt.open_at(path) {
         Ok((file, about)) => Ok((
             Asker::Script(script_from(rt.alloc(), file, replies)?),
             Some(about),
@@ -280,21 +300,113 @@ where
     }
 }
 
-/// What is opened of a run.
+/// Loads the list that the options name, where they name one, and answers where it is a file what the system says of that.
+fn open_adverts<R, I>(
+    rt: &R,
+    adverts: Option<End<'_>>,
+    input: &mut I,
+) -> Result<(Option<AdLibrary>, Option<Metadata>), Stopped>
+where
+    R: RunFiles + AllocGlobal,
+    I: Read,
+    ensures loaded { IfOk result (λ opened. IsLibraryIfAsked R.reads_at R.File.Read.remaining adverts.entry (I.remaining input.old)
+        opened.0 opened.1) }
+    ensures unread { IfSome adverts.entry (λ list. IsSome (path_of list)) → input.new ≡ input.old }
+    ensures unflushed { IfErr result (λ stopped. stopped.is_flushed ≡ false) }
+{
+    let Some(adverts) = adverts else {
+        return Ok((None, None));
+    };
+    match open_library(rt, adverts, input) {
+        Ok((library, list)) => Ok((Some(library), list)),
+        Err(stopped) => Err(stopped),
+    }
+}
+
+/// What a run is opened with, but where its packets go.
 #[derive(Drop)]
-struct Opened<F, W, L> {
-    /// The network, where it is a file.
-    network: Option<F>,
-    is_live: bool,
+struct InjectInputs<F, W, L> {
+    network: Network<F>,
     asker: Asker<W, L>,
+    /// What the system says of the script, where that is a file.
+    script: Option<Metadata>,
     library: Option<AdLibrary>,
+    /// What the system says of the list, where that is a file.
+    list: Option<Metadata>,
+}
+
+/// Opens the network, then the script or the port, and then loads the list with all its advertisements.
+fn open_inputs<R, I, W>(
+    rt: &R,
+    options: &InjectOptions<'_>,
+    input: &mut I,
+    replies: W,
+) -> Result<InjectInputs<R::File, W, R::Listener>, Stopped>
+where
+    R: RunFiles + Net + AllocGlobal,
+    I: Read,
+    W: Drop,
+    ensures opened { IfOk result (λ opened. AreInjectInputs R.reads_at R.File.Read.remaining options.now (I.remaining input.old)
+        (I.remaining input.new) opened) }
+    ensures unflushed { IfErr result (λ stopped. stopped.is_flushed ≡ false) }
+{
+    let network = open_network(rt, options.network)?;
+    let (asker, script) = open_asker(rt, options.asking, input, replies)?;
+    let (library, list) = open_adverts(rt, options.adverts, input)?;
+    Ok(InjectInputs {
+        network,
+        asker,
+        script,
+        library,
+        list,
+    })
+}
+
+/// Runs from the network that was opened.
+fn inject_network<F, I, O, W, L, T, X, E>(
+    alloc: Global,
+    options: &InjectOptions<'_>,
+    network: Network<F>,
+    input: &mut I,
+    asker: &mut Asker<W, L>,
+    library: Option<AdLibrary>,
+    told: Option<T>,
+    hearing: &mut Hearing<Listening<'_, X, E>>,
+    output: &mut O,
+) -> Result<Injected, Stopped>
+where
+    F: Read + Drop,
+    I: Read,
+    O: Write,
+    W: Write + Drop,
+    L: OpenListener + Drop,
+    L::Stream: OpenStream + Read + Write + Drop,
+    T: Write + Drop,
+    X: Write,
+    E: Write,
+    ensures done { options.now.is_on_air ≡ false → IfOk result (λ injected. Injects options.now.config library
+        (known_from F.remaining network.file (I.remaining input.old)) (Written (O.contents output.new) (O.contents output.old))
+        (AskerTells W.contents asker.old asker.new) injected.report) }
+    ensures printed { OnOk result (lost_replies asker.new ≡ 0) }
+    ensures plays { IfOk result (λ injected. injected.plays ≡ is_some options.now.adverts) }
+    ensures plain { options.now.is_on_air ≡ false → IfOk result (λ injected. injected.air ≡ None) }
+{
+    let is_live = network.is_live();
+    match network.file {
+        Some(file) => inject_from(
+            alloc, options, is_live, file, asker, library, told, hearing, output,
+        ),
+        None => inject_from(
+            alloc, options, is_live, input, asker, library, told, hearing, output,
+        ),
+    }
 }
 
 /// Runs between opened ends, and tells of the run.
 fn run_ends<F, I, O, W, L, T, X, E>(
     alloc: Global,
     options: &InjectOptions<'_>,
-    opened: Opened<F, W, L>,
+    opened: InjectInputs<F, W, L>,
     input: &mut I,
     told: Option<T>,
     telling: RefCell<Telling<X, E>>,
@@ -310,25 +422,26 @@ where
     T: Write + Drop,
     X: Write + Drop,
     E: Write + Drop,
+    ensures done { options.now.is_on_air ≡ false → IfOk result (λ injected. InjectsAndPrints options.now.config opened.library
+        (known_from F.remaining opened.network.file (I.remaining input.old)) (Written (O.contents output.new) (O.contents output.old))
+        W.contents opened.asker injected.report) }
+    ensures plays { IfOk result (λ injected. injected.plays ≡ is_some options.now.adverts) }
+    ensures plain { options.now.is_on_air ≡ false → IfOk result (λ injected. injected.air ≡ None) }
 {
-    let Opened {
+    let InjectInputs {
         network,
-        is_live,
         mut asker,
+        script: _,
         library,
+        list: _,
     } = opened;
     let listening = Listening::new(&telling);
     let overheard = tell_fault(&telling, overheard_of(alloc, listening.has_log()))?;
     let ran = {
         let hearing = &mut hearing_of(&telling, overheard);
-        match network {
-            Some(file) => inject_from(
-                alloc, options, is_live, file, &mut asker, library, told, hearing, output,
-            ),
-            None => inject_from(
-                alloc, options, is_live, input, &mut asker, library, told, hearing, output,
-            ),
-        }
+        inject_network(
+            alloc, options, network, input, &mut asker, library, told, hearing, output,
+        )
     };
     let mut injected = tell_fault(&telling, ran)?;
     tell_report(listening, &injected);
@@ -349,55 +462,66 @@ fn tell_report<X: Write, E: Write>(listening: Listening<'_, X, E>, injected: &In
     listening.write(|log| log.report(Some(messages), events, air));
 }
 
-/// Opens the ends in their order, and runs. `standard` is there where packets go to standard output; `faults` is the stream of faults.
-fn open_and_run<R, I, O, W, T>(
+/// Opens the ends in their order, and runs to the file that the options name. `replies` is where replies are printed, and the log, where that
+/// is no file; `faults` is the stream of faults.
+fn run_to_file<R, I, W, T>(
     rt: &R,
     options: &InjectOptions<'_>,
     input: &mut I,
     replies: W,
-    standard: Option<O>,
     faults: T,
 ) -> Result<Injected, Stopped>
 where
-    R: Files + Net + AllocGlobal,
+    R: RunFiles + Net + AllocGlobal,
     I: Read,
-    O: Write + Drop,
     W: Write + Copy + Drop,
     T: Write + Copy + Drop,
+    ensures done { options.now.is_on_air ≡ false → IfOk result (λ injected. InjectsToFile R.Listener R.reads_at R.makes_at
+        R.File.Read.remaining R.File.Write.contents W.contents options.now (I.remaining input.old) injected.report) }
+    ensures plays { IfOk result (λ injected. injected.plays ≡ is_some options.now.adverts) }
+    ensures plain { options.now.is_on_air ≡ false → IfOk result (λ injected. injected.air ≡ None) }
 {
-    let network = open_network(rt, options.network)?;
-    let (asker, script) = open_asker(rt, options.asking, input, replies)?;
-    let (library, list) = match options.adverts {
-        Some(adverts) => {
-            let (library, list) = open_library(rt, adverts, input)?;
-            (Some(library), list)
-        }
-        None => (None, None),
-    };
-    let about = network.about.as_ref();
-    let inputs = [about, script.as_ref(), list.as_ref()];
+    let opened = open_inputs(rt, options, input, replies)?;
+    let about = opened.network.about.as_ref();
+    let (script, list) = (opened.script.as_ref(), opened.list.as_ref());
+    let inputs = [about, script, list];
     let LogEnd { end, about: logged } = open_log(rt, options.events, replies, &inputs)?;
     let alarm = options.is_on_air.then_some(faults);
     let telling = telling_of(end, options.is_quiet, alarm);
-    let others = [about, script.as_ref(), list.as_ref(), logged.as_ref()];
-    let opened = open_output(rt, options.output, standard, &others);
-    let mut output = tell_fault(&telling, opened)?;
+    let made = make_output(rt, options.output, &[about, script, list, logged.as_ref()]);
+    let mut file = tell_fault(&telling, made)?;
     let told = (options.is_on_air && options.is_verbose).then_some(faults);
-    let opened = Opened {
-        is_live: network.is_live(),
-        network: network.file,
-        asker,
-        library,
-    };
-    run_ends(
-        rt.alloc(),
-        options,
-        opened,
-        input,
-        told,
-        telling,
-        &mut output,
-    )
+    run_ends(rt.alloc(), options, opened, input, told, telling, &mut file)
+}
+
+/// Opens the ends in their order, and runs to standard output. `faults` is the stream of faults, where replies are printed too, and the log,
+/// where that is no file.
+fn run_to_standard<R, I, O, T>(
+    rt: &R,
+    options: &InjectOptions<'_>,
+    input: &mut I,
+    output: &mut O,
+    faults: T,
+) -> Result<Injected, Stopped>
+where
+    R: RunFiles + Net + AllocGlobal,
+    I: Read,
+    O: Write,
+    T: Write + Copy + Drop,
+    ensures done { options.now.is_on_air ≡ false → IfOk result (λ injected. InjectsBetween R.Listener R.reads_at
+        R.File.Read.remaining T.contents options.now (I.remaining input.old) (Written (O.contents output.new) (O.contents output.old))
+        injected.report) }
+    ensures plays { IfOk result (λ injected. injected.plays ≡ is_some options.now.adverts) }
+    ensures plain { options.now.is_on_air ≡ false → IfOk result (λ injected. injected.air ≡ None) }
+{
+    let opened = open_inputs(rt, options, input, faults)?;
+    let about = opened.network.about.as_ref();
+    let inputs = [about, opened.script.as_ref(), opened.list.as_ref()];
+    let LogEnd { end, about: _ } = open_log(rt, options.events, faults, &inputs)?;
+    let alarm = options.is_on_air.then_some(faults);
+    let telling = telling_of(end, options.is_quiet, alarm);
+    let told = (options.is_on_air && options.is_verbose).then_some(faults);
+    run_ends(rt.alloc(), options, opened, input, told, telling, output)
 }
 
 /// Runs the subcommand `inject`, or `run` where the options name advertisements: the network is opened first, then the script or the port,
@@ -419,18 +543,24 @@ pub fn run_inject_command<R, I, O, E>(
     faults: &mut E,
 ) -> Result<Injected, Stopped>
 where
-    R: Files + Net + AllocGlobal,
+    R: RunFiles + Net + AllocGlobal,
     I: Read,
     O: Write,
     E: Write,
+    ensures to_standard { options.now.is_on_air ≡ false → path_of options.now.output ≡ None → IfOk result (λ injected. InjectsBetween
+        R.Listener R.reads_at R.File.Read.remaining ⟦<Sharing<'static, &'static mut E> as Write>⟧.contents options.now (I.remaining input.old)
+        (Written (O.contents output.new) (O.contents output.old)) injected.report) }
+    ensures to_file { options.now.is_on_air ≡ false → IsSome (path_of options.now.output) → IfOk result (λ injected. InjectsToFile
+        R.Listener R.reads_at R.makes_at R.File.Read.remaining R.File.Write.contents ⟦<Sharing<'static, &'static mut O> as Write>⟧.contents
+        options.now (I.remaining input.old) injected.report) }
+    ensures plays { IfOk result (λ injected. injected.plays ≡ is_some options.now.adverts) }
+    ensures plain { options.now.is_on_air ≡ false → IfOk result (λ injected. injected.air ≡ None) }
 {
     let stream = RefCell::new(faults);
     let faults = Sharing::new(&stream);
     if options.has_standard_output() {
-        return open_and_run(rt, options, input, faults, Some(output), faults);
+        return run_to_standard(rt, options, input, output, faults);
     }
     let printed = RefCell::new(output);
-    let replies = Sharing::new(&printed);
-    let none: Option<&mut O> = None;
-    open_and_run(rt, options, input, replies, none, faults)
+    run_to_file(rt, options, input, Sharing::new(&printed), faults)
 }

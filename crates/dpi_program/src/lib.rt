@@ -5,7 +5,7 @@
 
 mod counting;
 mod cutting;
-mod ends;
+pub mod ends;
 mod injecting;
 mod inspecting;
 mod planning;

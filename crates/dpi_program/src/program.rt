@@ -1,15 +1,24 @@
 //! The program: a command line, standard streams and files in, an exit status out.
 
-ghost use Rattle.std.specs.Prelude.{◌≡◌, ◌≤◌, IfErr};
+ghost use Rattle.std.specs.Prelude.{◌≡◌, ◌≤◌, None, IsSome, false, IfOk, IfErr, ◌++◌};
+ghost use Rattle.std.specs.Bool.{OnTrue};
+ghost use Rattle.std.specs.Io.KnownBytes.{Appends};
+ghost use Rattle.run_ends.specs.Ends.{path_of};
+ghost use Rattle.dpi_program.specs.Commands.{IsPrinted, spliced_lines, injected_lines, services_lines, served_lines};
+ghost use Rattle.dpi_program.specs.Statuses.{SplicesToStandardStream, SplicesToNamedFile, InjectsToStandardStream};
+ghost use Rattle.dpi_program.specs.Statuses.{InjectsToNamedFile, ServesToStandardStream, ServesToNamedFile};
 
 use crate::cutting::run_cut;
+use crate::ends::RunFiles;
 use crate::injecting::{Injected, run_inject_command};
 use crate::inspecting::run_inspect_command;
 use crate::planning::run_plan_command;
 use crate::requesting::run_request_command;
 use crate::serving::{Served, run_services_command};
+use crate::sharing::Sharing;
 use crate::splicing::{Spliced, run_splice_command};
 use crate::telling::print_warnings;
+use chain_services::ServiceEvents;
 use command_lines::command::{CUT_USAGE, CutOptions, command, cut_options};
 use command_lines::inject_options::{
     INJECT_USAGE, InjectOptions, RUN_USAGE, inject_options, run_options,
@@ -64,7 +73,9 @@ fn report_inject<E: Write>(faults: &mut E, options: &InjectOptions<'_>, stopped:
 }
 
 /// Prints the report of a run with cues, and answers whether it is out.
-fn print_injected<W: Write>(printed: &mut W, injected: &Injected) -> bool {
+fn print_injected<W: Write>(printed: &mut W, injected: &Injected) -> bool
+    ensures { OnTrue result (Appends (W.contents printed.old) (W.contents printed.new) (injected_lines injected.now)) }
+{
     if !print_report(printed, &injected.report, injected.plays) {
         return false;
     }
@@ -83,6 +94,10 @@ fn tell_injected<O: Write, E: Write>(
 ) -> u8
     ensures status { result ≤ 1 }
     ensures stopped { IfErr injected (λ _. result ≡ 1) }
+    ensures output { path_of options.now.output ≡ None → output.new ≡ output.old }
+    ensures printed { IsSome (path_of options.now.output) → result ≡ 0
+        → IfOk injected (λ ran. Appends (O.contents output.old) (O.contents output.new) (injected_lines ran)) }
+    ensures told { path_of options.now.output ≡ None → result ≡ 0 → IfOk injected (λ ran. IsPrinted E.contents (injected_lines ran)) }
 {
     let injected = match injected {
         Ok(injected) => injected,
@@ -113,11 +128,17 @@ fn inject<R, I, O, E>(
     faults: &mut E,
 ) -> u8
 where
-    R: Files + Net + AllocGlobal,
+    R: RunFiles + Net + AllocGlobal,
     I: Read,
     O: Write,
     E: Write,
-    ensures { result ≤ 1 }
+    ensures status { result ≤ 1 }
+    ensures to_standard { options.now.is_on_air ≡ false → path_of options.now.output ≡ None → result ≡ 0 → InjectsToStandardStream
+        R.Listener R.reads_at R.File.Read.remaining ⟦<Sharing<'static, &'static mut E> as Write>⟧.contents O.contents E.contents options.now
+        (I.remaining input.old) output.old output.new }
+    ensures to_file { options.now.is_on_air ≡ false → IsSome (path_of options.now.output) → result ≡ 0 → InjectsToNamedFile
+        R.Listener R.reads_at R.makes_at R.File.Read.remaining R.File.Write.contents ⟦<Sharing<'static, &'static mut O> as Write>⟧.contents O.contents
+        options.now (I.remaining input.old) output.new }
 {
     let injected = run_inject_command(rt, options, input, output, faults);
     tell_injected(options, injected, output, faults)
@@ -142,7 +163,9 @@ fn report_splice<E: Write>(faults: &mut E, options: &SpliceOptions<'_>, stopped:
 }
 
 /// Prints the report of a run with advertisements, and answers whether it is out.
-fn print_spliced<W: Write>(printed: &mut W, spliced: &Spliced) -> bool {
+fn print_spliced<W: Write>(printed: &mut W, spliced: &Spliced) -> bool
+    ensures { OnTrue result (Appends (W.contents printed.old) (W.contents printed.new) (spliced_lines spliced.now)) }
+{
     if !print_switched(printed, &spliced.report) {
         return false;
     }
@@ -161,6 +184,10 @@ fn tell_spliced<O: Write, E: Write>(
 ) -> u8
     ensures status { result ≤ 1 }
     ensures stopped { IfErr spliced (λ _. result ≡ 1) }
+    ensures output { path_of options.now.output ≡ None → output.new ≡ output.old }
+    ensures printed { IsSome (path_of options.now.output) → result ≡ 0
+        → IfOk spliced (λ ran. Appends (O.contents output.old) (O.contents output.new) (spliced_lines ran)) }
+    ensures told { path_of options.now.output ≡ None → result ≡ 0 → IfOk spliced (λ ran. IsPrinted E.contents (spliced_lines ran)) }
 {
     let spliced = match spliced {
         Ok(spliced) => spliced,
@@ -192,26 +219,46 @@ fn splice<R, I, O, E>(
     faults: &mut E,
 ) -> u8
 where
-    R: Files + AllocGlobal,
+    R: RunFiles + AllocGlobal,
     I: Read,
     O: Write,
     E: Write,
-    ensures { result ≤ 1 }
+    ensures status { result ≤ 1 }
+    ensures to_standard { options.now.is_on_air ≡ false → path_of options.now.output ≡ None → result ≡ 0 → SplicesToStandardStream
+        R.reads_at R.File.Read.remaining O.contents E.contents options.now
+        (I.remaining input.old) output.old output.new }
+    ensures to_file { options.now.is_on_air ≡ false → IsSome (path_of options.now.output) → result ≡ 0 → SplicesToNamedFile
+        R.reads_at R.makes_at R.File.Read.remaining R.File.Write.contents O.contents
+        options.now (I.remaining input.old) output.new }
 {
     let spliced = run_splice_command(rt, options, input, output, faults);
     tell_spliced(options, spliced, output, faults)
 }
 
+/// Prints what became of the events of these services, and answers whether the lines are out.
+fn print_services<W: Write>(printed: &mut W, services: &[ServiceEvents]) -> bool
+    ensures { OnTrue result (Appends (W.contents printed.old) (W.contents printed.new) (services_lines services.now)) }
+{
+    let mut rest = services;
+    while let Some((events, behind)) = rest.split_first() {
+        if !print_service(printed, events.program, &events.switch) {
+            return false;
+        }
+        rest = behind;
+    }
+    true
+}
+
 /// Prints the report of a run of several services, and answers whether it is out.
-fn print_served<W: Write>(printed: &mut W, served: &Served) -> bool {
+fn print_served<W: Write>(printed: &mut W, served: &Served) -> bool
+    ensures { OnTrue result (Appends (W.contents printed.old) (W.contents printed.new) (served_lines served.now)) }
+{
     let report = &served.report;
     if !print_messages(printed, report.messages, report.accepted, report.refused) {
         return false;
     }
-    for events in report.services.iter() {
-        if !print_service(printed, events.program, &events.switch) {
-            return false;
-        }
+    if !print_services(printed, report.services.as_slice()) {
+        return false;
     }
     match &served.air {
         Some(counts) => print_air_counts(printed, counts),
@@ -249,6 +296,10 @@ fn tell_served<O: Write, E: Write>(
 ) -> u8
     ensures status { result ≤ 1 }
     ensures stopped { IfErr served (λ _. result ≡ 1) }
+    ensures output { path_of options.now.output ≡ None → output.new ≡ output.old }
+    ensures printed { IsSome (path_of options.now.output) → result ≡ 0
+        → IfOk served (λ ran. Appends (O.contents output.old) (O.contents output.new) (served_lines ran)) }
+    ensures told { path_of options.now.output ≡ None → result ≡ 0 → IfOk served (λ ran. IsPrinted E.contents (served_lines ran)) }
 {
     let served = match served {
         Ok(served) => served,
@@ -279,11 +330,17 @@ fn services<R, I, O, E>(
     faults: &mut E,
 ) -> u8
 where
-    R: Files + Net + AllocGlobal,
+    R: RunFiles + Net + AllocGlobal,
     I: Read,
     O: Write,
     E: Write,
-    ensures { result ≤ 1 }
+    ensures status { result ≤ 1 }
+    ensures to_standard { options.now.is_on_air ≡ false → path_of options.now.output ≡ None → result ≡ 0 → ServesToStandardStream
+        R.Listener R.reads_at R.File.Read.remaining ⟦<Sharing<'static, &'static mut E> as Write>⟧.contents O.contents E.contents options.now
+        (I.remaining input.old) output.old output.new }
+    ensures to_file { options.now.is_on_air ≡ false → IsSome (path_of options.now.output) → result ≡ 0 → ServesToNamedFile
+        R.Listener R.reads_at R.makes_at R.File.Read.remaining R.File.Write.contents ⟦<Sharing<'static, &'static mut O> as Write>⟧.contents O.contents
+        options.now (I.remaining input.old) output.new }
 {
     let served = run_services_command(rt, options, input, output, faults);
     tell_served(options, served, output, faults)
@@ -381,7 +438,7 @@ pub fn program<R, I, O, E>(
     faults: &mut E,
 ) -> u8
 where
-    R: Files + Net + AllocGlobal,
+    R: RunFiles + Net + AllocGlobal,
     I: Read,
     O: Write,
     E: Write,

@@ -1,13 +1,17 @@
 //! The subcommand `services`: a run of several services between the ends that its options name, and what it tells.
 
-ghost use Rattle.std.specs.Prelude.{IfOk};
+ghost use Rattle.std.specs.Prelude.{◌≡◌, None, IsSome, false, IfOk, IfErr, OnOk};
 ghost use Rattle.ts_packet.specs.Sinks.{Written};
+ghost use Rattle.run_ends.specs.Ends.{path_of};
 ghost use Rattle.service_lists.specs.Lists.{AreReady};
 ghost use Rattle.chain_services.specs.Runs.{terms_by};
-ghost use Rattle.passages.specs.Runs.{PassesAll, Serves, AskerTells};
+ghost use Rattle.passages.specs.Runs.{PassesAll, Serves, AskerTells, lost_replies};
+ghost use Rattle.dpi_program.specs.Runs.{known_from, ServesAndPrints};
+ghost use Rattle.dpi_program.specs.Inputs.{AreServicesOf, AreServicesAt, AreServiceInputs};
+ghost use Rattle.dpi_program.specs.Commands.{ServesBetween, ServesToFile};
 
 use crate::counting::air_counts;
-use crate::ends::{LogEnd, open_log, open_network, open_output};
+use crate::ends::{LogEnd, Network, RunFiles, make_output, open_log, open_network};
 use crate::injecting::open_asker;
 use crate::sharing::Sharing;
 use crate::telling::{hearing_of, overheard_of, tell_fault, telling_of, warnings_of, with_late};
@@ -28,7 +32,7 @@ use passages::recovery_watch::RecoveryWatch;
 use passages::running::{Ran, out_of_memory, run_from, stopped, with_replies};
 use passages::tell::{LineAbout, ServicesAccount, Side, Stopped};
 use report_texts::AirCounts;
-use run_ends::{Attended, End, open_input};
+use run_ends::{Attended, End};
 use run_events::{Hearing, Watch};
 use service_lists::{ServiceList, ServicesFault, Unloaded, load_services};
 use services_on_air::{AirServices, ServicesWatch};
@@ -54,7 +58,9 @@ pub struct Served {
 }
 
 /// What is known of a list of services that was not loaded.
-fn unserved(unloaded: Unloaded, reading: Option<io::Error>) -> Stopped {
+fn unserved(unloaded: Unloaded, reading: Option<io::Error>) -> Stopped
+    ensures { result.is_flushed ≡ false }
+{
     let Unloaded {
         fault,
         line,
@@ -90,7 +96,9 @@ fn services_from<F: Files, R: Read + Drop>(
     alloc: Global,
     reader: R,
 ) -> Result<ServiceList, Stopped>
-    ensures { IfOk result AreReady }
+    ensures ready { IfOk result AreReady }
+    ensures loaded { IfOk result (λ list. AreServicesOf list (R.remaining reader)) }
+    ensures unflushed { IfErr result (λ stopped. stopped.is_flushed ≡ false) }
 {
     let mut list = Device::new(Attended::new(reader));
     match load_services(rt, alloc, &mut list) {
@@ -106,14 +114,18 @@ fn open_services<R, I>(
     input: &mut I,
 ) -> Result<(ServiceList, Option<Metadata>), Stopped>
 where
-    R: Files + AllocGlobal,
+    R: RunFiles + AllocGlobal,
     I: Read,
-    ensures { IfOk result (λ opened. AreReady opened.0) }
+    ensures ready { IfOk result (λ opened. AreReady opened.0) }
+    ensures loaded { IfOk result (λ opened. AreServicesAt R.reads_at R.File.Read.remaining services.entry (I.remaining input.old) opened.0
+        opened.1) }
+    ensures unread { IsSome (path_of services.entry) → input.new ≡ input.old }
+    ensures unflushed { IfErr result (λ stopped. stopped.is_flushed ≡ false) }
 {
     let Some(path) = services.path() else {
         return Ok((services_from(rt, rt.alloc(), input)?, None));
     };
-    match open_input(rt, path) {
+    match rt.open_at(path) {
         Ok((file, about)) => Ok((services_from(rt, rt.alloc(), file)?, Some(about))),
         Err(reason) => Err(stopped(ProgramFault::File, Side::Filing, Some(reason))),
     }
@@ -146,6 +158,8 @@ where
     ensures done { IfOk result (λ served. PassesAll
         (Serves (terms_by list.configs.items list.libraries.items) (AskerTells W.contents asker.old asker.new)) (R.remaining input)
         (Written (O.contents output.new) (O.contents output.old)) served.report) }
+    ensures printed { OnOk result (lost_replies asker.new ≡ 0) }
+    ensures plain { IfOk result (λ served. served.air ≡ None) }
 {
     let ServiceList {
         configs,
@@ -192,6 +206,7 @@ where
     A: ServicesWatch,
     H: Watch + Copy + Drop,
     V: RecoveryWatch + Drop,
+    ensures printed { OnOk result (lost_replies asker.new ≡ 0) }
 {
     let watched = watched_for(is_verbose);
     let passage = ServingOnAir {
@@ -235,6 +250,11 @@ where
     X: Write,
     E: Write,
     requires { AreReady list }
+    ensures done { on_air ≡ None → IfOk result (λ served. PassesAll
+        (Serves (terms_by list.configs.items list.libraries.items) (AskerTells W.contents asker.old asker.new)) (R.remaining input)
+        (Written (O.contents output.new) (O.contents output.old)) served.report) }
+    ensures printed { OnOk result (lost_replies asker.new ≡ 0) }
+    ensures plain { on_air ≡ None → IfOk result (λ served. served.air ≡ None) }
 {
     let Some(services) = on_air else {
         return run_plainly(
@@ -263,15 +283,44 @@ where
     }
 }
 
-/// What is opened of a run.
+/// What a run is opened with, but where its packets go.
 #[derive(Drop)]
-struct Opened<F, W, L> {
-    /// The network, where it is a file.
-    network: Option<F>,
-    is_live: bool,
+struct ServiceInputs<F, W, L> {
+    network: Network<F>,
     asker: Asker<W, L>,
+    /// What the system says of the script, where that is a file.
+    script: Option<Metadata>,
     list: ServiceList,
-    on_air: Option<AirServices>,
+    /// What the system says of the list, where that is a file.
+    listed: Option<Metadata>,
+}
+
+/// Opens the network, then the script or the port, and then loads the list.
+fn open_inputs<R, I, W>(
+    rt: &R,
+    options: &ServicesOptions<'_>,
+    input: &mut I,
+    replies: W,
+) -> Result<ServiceInputs<R::File, W, R::Listener>, Stopped>
+where
+    R: RunFiles + Net + AllocGlobal,
+    I: Read,
+    W: Drop,
+    ensures ready { IfOk result (λ opened. AreReady opened.list) }
+    ensures opened { IfOk result (λ opened. AreServiceInputs R.reads_at R.File.Read.remaining options.now (I.remaining input.old)
+        (I.remaining input.new) opened) }
+    ensures unflushed { IfErr result (λ stopped. stopped.is_flushed ≡ false) }
+{
+    let network = open_network(rt, options.network)?;
+    let (asker, script) = open_asker(rt, options.asking, input, replies)?;
+    let (list, listed) = open_services(rt, options.services, input)?;
+    Ok(ServiceInputs {
+        network,
+        asker,
+        script,
+        list,
+        listed,
+    })
 }
 
 /// Has the log write what was counted.
@@ -289,11 +338,54 @@ fn tell_report<X: Write, E: Write>(listening: Listening<'_, X, E>, served: &Serv
     }
 }
 
-/// Runs between opened ends, and tells of the run.
+/// Runs from the network that was opened.
+fn serve_network<F, I, O, W, L, T, X, E>(
+    alloc: Global,
+    is_verbose: bool,
+    network: Network<F>,
+    input: &mut I,
+    asker: &mut Asker<W, L>,
+    list: ServiceList,
+    on_air: Option<AirServices>,
+    told: Option<T>,
+    hearing: &mut Hearing<Listening<'_, X, E>>,
+    output: &mut O,
+) -> Result<Served, Stopped>
+where
+    F: Read + Drop,
+    I: Read,
+    O: Write,
+    W: Write + Drop,
+    L: OpenListener + Drop,
+    L::Stream: OpenStream + Read + Write + Drop,
+    T: Write + Drop,
+    X: Write,
+    E: Write,
+    requires { AreReady list }
+    ensures done { on_air ≡ None → IfOk result (λ served. PassesAll
+        (Serves (terms_by list.configs.items list.libraries.items) (AskerTells W.contents asker.old asker.new))
+        (known_from F.remaining network.file (I.remaining input.old)) (Written (O.contents output.new) (O.contents output.old))
+        served.report) }
+    ensures printed { OnOk result (lost_replies asker.new ≡ 0) }
+    ensures plain { on_air ≡ None → IfOk result (λ served. served.air ≡ None) }
+{
+    let is_live = network.is_live();
+    match network.file {
+        Some(file) => run_services_from(
+            alloc, is_verbose, is_live, file, asker, list, on_air, told, hearing, output,
+        ),
+        None => run_services_from(
+            alloc, is_verbose, is_live, input, asker, list, on_air, told, hearing, output,
+        ),
+    }
+}
+
+/// Runs between opened ends, on air where there are services for that, and tells of the run.
 fn run_ends<F, I, O, W, L, T, X, E>(
     alloc: Global,
     options: &ServicesOptions<'_>,
-    opened: Opened<F, W, L>,
+    opened: ServiceInputs<F, W, L>,
+    on_air: Option<AirServices>,
     input: &mut I,
     told: Option<T>,
     telling: RefCell<Telling<X, E>>,
@@ -310,27 +402,26 @@ where
     X: Write + Drop,
     E: Write + Drop,
     requires { AreReady opened.list }
+    ensures done { on_air ≡ None → IfOk result (λ served. ServesAndPrints
+        (terms_by opened.list.configs.items opened.list.libraries.items) (known_from F.remaining opened.network.file (I.remaining input.old))
+        (Written (O.contents output.new) (O.contents output.old)) W.contents opened.asker served.report) }
+    ensures plain { on_air ≡ None → IfOk result (λ served. served.air ≡ None) }
 {
-    let Opened {
+    let ServiceInputs {
         network,
-        is_live,
         mut asker,
+        script: _,
         list,
-        on_air,
+        listed: _,
     } = opened;
     let is_verbose = options.is_verbose;
     let listening = Listening::new(&telling);
     let overheard = tell_fault(&telling, overheard_of(alloc, listening.has_log()))?;
     let ran = {
         let hearing = &mut hearing_of(&telling, overheard);
-        match network {
-            Some(file) => run_services_from(
-                alloc, is_verbose, is_live, file, &mut asker, list, on_air, told, hearing, output,
-            ),
-            None => run_services_from(
-                alloc, is_verbose, is_live, input, &mut asker, list, on_air, told, hearing, output,
-            ),
-        }
+        serve_network(
+            alloc, is_verbose, network, input, &mut asker, list, on_air, told, hearing, output,
+        )
     };
     let mut served = tell_fault(&telling, ran)?;
     tell_report(listening, &served);
@@ -343,7 +434,10 @@ fn services_on_air_of(
     alloc: Global,
     options: &ServicesOptions<'_>,
     list: &ServiceList,
-) -> Result<Option<AirServices>, Stopped> {
+) -> Result<Option<AirServices>, Stopped>
+    ensures plain { options.now.is_on_air ≡ false → IfOk result (λ on_air. on_air ≡ None) }
+    ensures unflushed { IfErr result (λ stopped. stopped.is_flushed ≡ false) }
+{
     if !options.is_on_air {
         return Ok(None);
     }
@@ -353,44 +447,73 @@ fn services_on_air_of(
     }
 }
 
-/// Opens the ends in their order, and runs. `standard` is there where packets go to standard output; `faults` is the stream of faults.
-fn open_and_run<R, I, O, W, T>(
+/// Opens the ends in their order, and runs to the file that the options name. `replies` is where replies are printed, and the log, where that
+/// is no file; `faults` is the stream of faults.
+fn run_to_file<R, I, W, T>(
     rt: &R,
     options: &ServicesOptions<'_>,
     input: &mut I,
     replies: W,
-    standard: Option<O>,
     faults: T,
 ) -> Result<Served, Stopped>
 where
-    R: Files + Net + AllocGlobal,
+    R: RunFiles + Net + AllocGlobal,
     I: Read,
-    O: Write + Drop,
     W: Write + Copy + Drop,
     T: Write + Copy + Drop,
+    ensures done { options.now.is_on_air ≡ false → IfOk result (λ served. ServesToFile R.Listener R.reads_at R.makes_at
+        R.File.Read.remaining R.File.Write.contents W.contents options.now (I.remaining input.old) served.report) }
+    ensures plain { options.now.is_on_air ≡ false → IfOk result (λ served. served.air ≡ None) }
 {
-    let network = open_network(rt, options.network)?;
-    let (asker, script) = open_asker(rt, options.asking, input, replies)?;
-    let (list, listed) = open_services(rt, options.services, input)?;
+    let opened = open_inputs(rt, options, input, replies)?;
     let alloc = rt.alloc();
-    let on_air = services_on_air_of(alloc, options, &list)?;
-    let about = network.about.as_ref();
-    let inputs = [about, script.as_ref(), listed.as_ref()];
+    let on_air = services_on_air_of(alloc, options, &opened.list)?;
+    let about = opened.network.about.as_ref();
+    let (script, listed) = (opened.script.as_ref(), opened.listed.as_ref());
+    let inputs = [about, script, listed];
     let LogEnd { end, about: logged } = open_log(rt, options.events, replies, &inputs)?;
     let alarm = options.is_on_air.then_some(faults);
     let telling = telling_of(end, options.is_quiet, alarm);
-    let others = [about, script.as_ref(), listed.as_ref(), logged.as_ref()];
-    let opened = open_output(rt, options.output, standard, &others);
-    let mut output = tell_fault(&telling, opened)?;
+    let made = make_output(
+        rt,
+        options.output,
+        &[about, script, listed, logged.as_ref()],
+    );
+    let mut file = tell_fault(&telling, made)?;
     let told = (options.is_on_air && options.is_verbose).then_some(faults);
-    let opened = Opened {
-        is_live: network.is_live(),
-        network: network.file,
-        asker,
-        list,
-        on_air,
-    };
-    run_ends(alloc, options, opened, input, told, telling, &mut output)
+    run_ends(
+        alloc, options, opened, on_air, input, told, telling, &mut file,
+    )
+}
+
+/// Opens the ends in their order, and runs to standard output. `faults` is the stream of faults, where replies are printed too, and the log,
+/// where that is no file.
+fn run_to_standard<R, I, O, T>(
+    rt: &R,
+    options: &ServicesOptions<'_>,
+    input: &mut I,
+    output: &mut O,
+    faults: T,
+) -> Result<Served, Stopped>
+where
+    R: RunFiles + Net + AllocGlobal,
+    I: Read,
+    O: Write,
+    T: Write + Copy + Drop,
+    ensures done { options.now.is_on_air ≡ false → IfOk result (λ served. ServesBetween R.Listener R.reads_at R.File.Read.remaining
+        T.contents options.now (I.remaining input.old) (Written (O.contents output.new) (O.contents output.old)) served.report) }
+    ensures plain { options.now.is_on_air ≡ false → IfOk result (λ served. served.air ≡ None) }
+{
+    let opened = open_inputs(rt, options, input, faults)?;
+    let alloc = rt.alloc();
+    let on_air = services_on_air_of(alloc, options, &opened.list)?;
+    let about = opened.network.about.as_ref();
+    let inputs = [about, opened.script.as_ref(), opened.listed.as_ref()];
+    let LogEnd { end, about: _ } = open_log(rt, options.events, faults, &inputs)?;
+    let alarm = options.is_on_air.then_some(faults);
+    let telling = telling_of(end, options.is_quiet, alarm);
+    let told = (options.is_on_air && options.is_verbose).then_some(faults);
+    run_ends(alloc, options, opened, on_air, input, told, telling, output)
 }
 
 /// Runs the subcommand `services`: the network is opened first, then the script or the port, then the list is loaded line by line, with all
@@ -412,18 +535,23 @@ pub fn run_services_command<R, I, O, E>(
     faults: &mut E,
 ) -> Result<Served, Stopped>
 where
-    R: Files + Net + AllocGlobal,
+    R: RunFiles + Net + AllocGlobal,
     I: Read,
     O: Write,
     E: Write,
+    ensures to_standard { options.now.is_on_air ≡ false → path_of options.now.output ≡ None → IfOk result (λ served. ServesBetween
+        R.Listener R.reads_at R.File.Read.remaining ⟦<Sharing<'static, &'static mut E> as Write>⟧.contents options.now (I.remaining input.old)
+        (Written (O.contents output.new) (O.contents output.old)) served.report) }
+    ensures to_file { options.now.is_on_air ≡ false → IsSome (path_of options.now.output) → IfOk result (λ served. ServesToFile
+        R.Listener R.reads_at R.makes_at R.File.Read.remaining R.File.Write.contents ⟦<Sharing<'static, &'static mut O> as Write>⟧.contents
+        options.now (I.remaining input.old) served.report) }
+    ensures plain { options.now.is_on_air ≡ false → IfOk result (λ served. served.air ≡ None) }
 {
     let stream = RefCell::new(faults);
     let faults = Sharing::new(&stream);
     if options.has_standard_output() {
-        return open_and_run(rt, options, input, faults, Some(output), faults);
+        return run_to_standard(rt, options, input, output, faults);
     }
     let printed = RefCell::new(output);
-    let replies = Sharing::new(&printed);
-    let none: Option<&mut O> = None;
-    open_and_run(rt, options, input, replies, none, faults)
+    run_to_file(rt, options, input, Sharing::new(&printed), faults)
 }

@@ -1,15 +1,18 @@
 //! The subcommand `splice`: a run with advertisements between the ends that its options name, and what it tells.
 
-ghost use Rattle.std.specs.Prelude.{◌≡◌, Some, true, false, IfOk, IfErr};
+ghost use Rattle.std.specs.Prelude.{◌≡◌, None, Some, IsSome, true, false, IfOk, IfErr};
 ghost use Rattle.ts_packet.specs.Sinks.{Written};
 ghost use Rattle.ad_library.specs.Library.{held};
 ghost use Rattle.ad_lists.specs.Lists.{is_at_line};
 ghost use Rattle.passages.specs.Runs.{PassesAll, Splices};
 ghost use Rattle.passages.specs.Stops.{SplicingStops, StopsAtDevice};
+ghost use Rattle.run_ends.specs.Ends.{path_of};
 ghost use Rattle.dpi_program.specs.Runs.{known_from};
+ghost use Rattle.dpi_program.specs.Inputs.{IsLibraryOf, IsLibraryAt, AreSpliceInputs};
+ghost use Rattle.dpi_program.specs.Commands.{SplicesBetween, SplicesToFile, SpliceStopsBetween};
 
 use crate::counting::air_counts;
-use crate::ends::{LogEnd, open_log, open_network, open_output};
+use crate::ends::{LogEnd, Network, RunFiles, make_output, open_log, open_network};
 use crate::sharing::Sharing;
 use crate::telling::{tell_fault, telling_of, warnings_of};
 use ad_library::AdLibrary;
@@ -28,7 +31,7 @@ use passages::running::{Ran, run_from, stopped};
 use passages::tell::{LineAbout, Side, Stopped};
 use passages::watch::Watch;
 use report_texts::AirCounts;
-use run_ends::{Attended, End, open_input};
+use run_ends::{Attended, End};
 use splice_plans::SwitchReport;
 use std::alloc::Global;
 use std::cell::RefCell;
@@ -59,6 +62,7 @@ fn unlisted(
     reading: Option<io::Error>,
 ) -> Stopped
     ensures fault { result.fault ≡ ProgramFault.List fault }
+    ensures unflushed { result.is_flushed ≡ false }
     ensures line { is_at_line fault ≡ true → result.line ≡ Some loading.number }
 {
     let mut told = stopped(ProgramFault::List(fault), Side::Filing, reading);
@@ -77,7 +81,10 @@ fn library_from<F: Files, R: Read + Drop>(
     rt: &F,
     alloc: Global,
     reader: R,
-) -> Result<AdLibrary, Stopped> {
+) -> Result<AdLibrary, Stopped>
+    ensures loaded { IfOk result (λ library. IsLibraryOf library (R.remaining reader)) }
+    ensures unflushed { IfErr result (λ stopped. stopped.is_flushed ≡ false) }
+{
     let mut list = Device::new(Attended::new(reader));
     let mut loading = Loading::new_in(alloc);
     match load_into(rt, alloc, &mut loading, &mut list) {
@@ -96,13 +103,17 @@ pub(crate) fn open_library<R, I>(
     input: &mut I,
 ) -> Result<(AdLibrary, Option<Metadata>), Stopped>
 where
-    R: Files + AllocGlobal,
+    R: RunFiles + AllocGlobal,
     I: Read,
+    ensures loaded { IfOk result (λ opened. IsLibraryAt R.reads_at R.File.Read.remaining adverts.entry (I.remaining input.old) opened.0
+        opened.1) }
+    ensures unread { IsSome (path_of adverts.entry) → input.new ≡ input.old }
+    ensures unflushed { IfErr result (λ stopped. stopped.is_flushed ≡ false) }
 {
     let Some(path) = adverts.path() else {
         return Ok((library_from(rt, rt.alloc(), input)?, None));
     };
-    match open_input(rt, path) {
+    match rt.open_at(path) {
         Ok((file, about)) => Ok((library_from(rt, rt.alloc(), file)?, Some(about))),
         Err(reason) => Err(stopped(ProgramFault::File, Side::Filing, Some(reason))),
     }
@@ -165,6 +176,7 @@ where
     ensures done { options.now.is_on_air ≡ false → IfOk result (λ spliced. PassesAll
         (Splices options.now.config (held library.now)) (R.remaining input) (Written (O.contents output.new) (O.contents output.old))
         spliced.report) }
+    ensures plain { options.now.is_on_air ≡ false → IfOk result (λ spliced. spliced.air ≡ None) }
     ensures stopped { options.now.is_on_air ≡ false → IfErr result (λ stopped. stopped.is_flushed ≡ true
         → StopsAtDevice (SplicingStops options.now.config (held library.now) stopped.fault) (R.remaining input)
         (O.contents output.old) (O.contents output.new)) }
@@ -210,20 +222,42 @@ where
     })
 }
 
-/// What is opened of a run.
+/// What a run is opened with, but where its packets go.
 #[derive(Drop)]
-struct Opened<F> {
-    /// The network, where it is a file.
-    network: Option<F>,
-    is_live: bool,
+struct SpliceInputs<F> {
+    network: Network<F>,
     library: AdLibrary,
+    /// What the system says of the list, where that is a file.
+    list: Option<Metadata>,
+}
+
+/// Opens the network, and then loads the list with all its advertisements.
+fn open_inputs<R, I>(
+    rt: &R,
+    options: &SpliceOptions<'_>,
+    input: &mut I,
+) -> Result<SpliceInputs<R::File>, Stopped>
+where
+    R: RunFiles + AllocGlobal,
+    I: Read,
+    ensures opened { IfOk result (λ opened. AreSpliceInputs R.reads_at R.File.Read.remaining options.now (I.remaining input.old)
+        (I.remaining input.new) opened) }
+    ensures unflushed { IfErr result (λ stopped. stopped.is_flushed ≡ false) }
+{
+    let network = open_network(rt, options.network)?;
+    let (library, list) = open_library(rt, options.adverts, input)?;
+    Ok(SpliceInputs {
+        network,
+        library,
+        list,
+    })
 }
 
 /// Runs between opened ends, and tells of the run.
 fn run_ends<F, I, T, W, E, O>(
     alloc: Global,
     options: &SpliceOptions<'_>,
-    opened: Opened<F>,
+    opened: SpliceInputs<F>,
     input: &mut I,
     told: Option<T>,
     telling: RefCell<Telling<W, E>>,
@@ -237,16 +271,21 @@ where
     E: Write + Drop,
     O: Write,
     ensures done { options.now.is_on_air ≡ false → IfOk result (λ spliced. PassesAll
-        (Splices options.now.config (held opened.library)) (known_from F.remaining opened.network (I.remaining input.old))
+        (Splices options.now.config (held opened.library)) (known_from F.remaining opened.network.file (I.remaining input.old))
         (Written (O.contents output.new) (O.contents output.old)) spliced.report) }
+    ensures plain { options.now.is_on_air ≡ false → IfOk result (λ spliced. spliced.air ≡ None) }
+    ensures stopped { options.now.is_on_air ≡ false → IfErr result (λ stopped. stopped.is_flushed ≡ true
+        → StopsAtDevice (SplicingStops options.now.config (held opened.library) stopped.fault)
+        (known_from F.remaining opened.network.file (I.remaining input.old)) (O.contents output.old) (O.contents output.new)) }
 {
-    let Opened {
+    let SpliceInputs {
         network,
-        is_live,
         library,
+        list: _,
     } = opened;
+    let is_live = network.is_live();
     let listening = Listening::new(&telling);
-    let ran = match network {
+    let ran = match network.file {
         Some(file) => splice_from(
             alloc, options, is_live, file, &library, told, listening, output,
         ),
@@ -261,51 +300,62 @@ where
     Ok(spliced)
 }
 
-/// Opens the ends in their order, and runs. `standard` is there where packets go to standard output; `faults` is the stream of faults.
-fn open_and_run<R, I, O, W, T>(
+/// Opens the ends in their order, and runs to the file that the options name. `printed` is where the log goes, where that is no file, and
+/// `faults` is the stream of faults.
+fn run_to_file<R, I, W, T>(
     rt: &R,
     options: &SpliceOptions<'_>,
     input: &mut I,
     printed: W,
-    standard: Option<O>,
     faults: T,
 ) -> Result<Spliced, Stopped>
 where
-    R: Files + AllocGlobal,
+    R: RunFiles + AllocGlobal,
     I: Read,
-    O: Write + Drop,
     W: Write + Drop,
     T: Write + Copy + Drop,
+    ensures done { options.now.is_on_air ≡ false → IfOk result (λ spliced. SplicesToFile R.reads_at R.makes_at R.File.Read.remaining
+        R.File.Write.contents options.now (I.remaining input.old) spliced.report) }
+    ensures plain { options.now.is_on_air ≡ false → IfOk result (λ spliced. spliced.air ≡ None) }
 {
-    let network = open_network(rt, options.network)?;
-    let (library, list) = open_library(rt, options.adverts, input)?;
-    let about = network.about.as_ref();
-    let LogEnd { end, about: logged } = open_log(
-        rt,
-        options.events,
-        printed,
-        &[about, list.as_ref()],
-    )?;
+    let opened = open_inputs(rt, options, input)?;
+    let (about, list) = (opened.network.about.as_ref(), opened.list.as_ref());
+    let LogEnd { end, about: logged } = open_log(rt, options.events, printed, &[about, list])?;
     let alarm = options.is_on_air.then_some(faults);
     let telling = telling_of(end, options.is_quiet, alarm);
-    let others = [about, list.as_ref(), logged.as_ref()];
-    let opened = open_output(rt, options.output, standard, &others);
-    let mut output = tell_fault(&telling, opened)?;
+    let made = make_output(rt, options.output, &[about, list, logged.as_ref()]);
+    let mut file = tell_fault(&telling, made)?;
     let told = options.is_verbose.then_some(faults);
-    let opened = Opened {
-        is_live: network.is_live(),
-        network: network.file,
-        library,
-    };
-    run_ends(
-        rt.alloc(),
-        options,
-        opened,
-        input,
-        told,
-        telling,
-        &mut output,
-    )
+    run_ends(rt.alloc(), options, opened, input, told, telling, &mut file)
+}
+
+/// Opens the ends in their order, and runs to standard output. `faults` is the stream of faults, where the log goes too, where that is no file.
+fn run_to_standard<R, I, O, T>(
+    rt: &R,
+    options: &SpliceOptions<'_>,
+    input: &mut I,
+    output: &mut O,
+    faults: T,
+) -> Result<Spliced, Stopped>
+where
+    R: RunFiles + AllocGlobal,
+    I: Read,
+    O: Write,
+    T: Write + Copy + Drop,
+    ensures done { options.now.is_on_air ≡ false → IfOk result (λ spliced. SplicesBetween R.reads_at R.File.Read.remaining options.now
+        (I.remaining input.old) (Written (O.contents output.new) (O.contents output.old)) spliced.report) }
+    ensures plain { options.now.is_on_air ≡ false → IfOk result (λ spliced. spliced.air ≡ None) }
+    ensures stopped { options.now.is_on_air ≡ false → IfErr result (λ stopped. stopped.is_flushed ≡ true
+        → SpliceStopsBetween R.reads_at R.File.Read.remaining options.now (I.remaining input.old) (O.contents output.old)
+        (O.contents output.new) stopped.fault) }
+{
+    let opened = open_inputs(rt, options, input)?;
+    let (about, list) = (opened.network.about.as_ref(), opened.list.as_ref());
+    let LogEnd { end, about: _ } = open_log(rt, options.events, faults, &[about, list])?;
+    let alarm = options.is_on_air.then_some(faults);
+    let telling = telling_of(end, options.is_quiet, alarm);
+    let told = options.is_verbose.then_some(faults);
+    run_ends(rt.alloc(), options, opened, input, told, telling, output)
 }
 
 /// Runs the subcommand `splice`: the network is opened first, then the list is loaded with all its advertisements, then the log and then the
@@ -324,17 +374,25 @@ pub fn run_splice_command<R, I, O, E>(
     faults: &mut E,
 ) -> Result<Spliced, Stopped>
 where
-    R: Files + AllocGlobal,
+    R: RunFiles + AllocGlobal,
     I: Read,
     O: Write,
     E: Write,
+    ensures to_standard { options.now.is_on_air ≡ false → path_of options.now.output ≡ None → IfOk result (λ spliced. SplicesBetween
+        R.reads_at R.File.Read.remaining options.now (I.remaining input.old)
+        (Written (O.contents output.new) (O.contents output.old)) spliced.report) }
+    ensures to_file { options.now.is_on_air ≡ false → IsSome (path_of options.now.output) → IfOk result (λ spliced. SplicesToFile
+        R.reads_at R.makes_at R.File.Read.remaining R.File.Write.contents options.now (I.remaining input.old) spliced.report) }
+    ensures plain { options.now.is_on_air ≡ false → IfOk result (λ spliced. spliced.air ≡ None) }
+    ensures stopped { options.now.is_on_air ≡ false → path_of options.now.output ≡ None → IfErr result (λ stopped.
+        stopped.is_flushed ≡ true → SpliceStopsBetween R.reads_at R.File.Read.remaining options.now (I.remaining input.old)
+        (O.contents output.old) (O.contents output.new) stopped.fault) }
 {
     let stream = RefCell::new(faults);
     let faults = Sharing::new(&stream);
     if options.has_standard_output() {
-        return open_and_run(rt, options, input, faults, Some(output), faults);
+        return run_to_standard(rt, options, input, output, faults);
     }
     let printed = RefCell::new(output);
-    let none: Option<&mut O> = None;
-    open_and_run(rt, options, input, Sharing::new(&printed), none, faults)
+    run_to_file(rt, options, input, Sharing::new(&printed), faults)
 }

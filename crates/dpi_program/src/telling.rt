@@ -1,6 +1,6 @@
 //! What is told of a run besides its report: the log of events, and warnings.
 
-ghost use Rattle.std.specs.Prelude.{◌≡◌, IfErr, IfOk, true, is_ok, is_some};
+ghost use Rattle.std.specs.Prelude.{◌≡◌, IfErr, IfOk, true, false, is_ok, is_some};
 
 use event_logs::{EventLog, Listening, Telling, Warnings};
 use passages::asking::Asker;
@@ -34,6 +34,7 @@ pub(crate) fn telling_of<W: Write, E: Write>(
 pub(crate) fn overheard_of(alloc: Global, has_log: bool) -> Result<Option<Overheard>, Stopped>
     ensures room { IfOk result (λ overheard. is_some overheard ≡ has_log) }
     ensures fault { IfErr result (λ stopped. stopped.fault ≡ ProgramFault.OutOfMemory) }
+    ensures unflushed { IfErr result (λ stopped. stopped.is_flushed ≡ false) }
 {
     if !has_log {
         return Ok(None);
@@ -81,6 +82,7 @@ pub(crate) fn warnings_of<W: Write + Drop, E: Drop>(
     ensures on_air { is_on_air ≡ true → is_ok result ≡ true }
     ensures fault { IfErr result (λ stopped. stopped.fault ≡ ProgramFault.Log) }
     ensures side { IfErr result (λ stopped. stopped.side ≡ Side.Telling) }
+    ensures unflushed { IfErr result (λ stopped. stopped.is_flushed ≡ false) }
 {
     let (log, warnings) = telling.into_inner().into_parts();
     let lost = match log {

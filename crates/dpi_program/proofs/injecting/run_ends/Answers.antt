@@ -1,0 +1,11 @@
+use Rattle.std.proofs.Common.{◌≡◌, ◌∙◌, Ok, OnOk, sym, subst}
+use Rattle.std.proofs.lemmas.Result.{IfOk-at_ok}
+use Rattle.passages.specs.Runs.{lost_replies}
+use Rattle.dpi_program.proofs.injecting.run_ends.Goals as goal
+
+-- what the run did to its asker is what is told
+pub returns-clause-done : goal.returns-clause-done
+returns-clause-done g c = λ off.
+    let later = c.inject_network-ran.new.asker in
+    let went : c.inject_network-ran.result ≡ Ok c.in_ok-injected.injected = sym c.tell_fault-2.ensures ∙ c.in_ok-injected.was in
+    (later, subst (λ r. OnOk r (lost_replies later ≡ 0)) went c.inject_network-ran.ensures.printed, IfOk-at_ok _ went (c.inject_network-ran.ensures.done off))

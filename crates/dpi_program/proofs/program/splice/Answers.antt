@@ -1,0 +1,19 @@
+use Rattle.std.specs.Io.KnownBytes.{Appends}
+use Rattle.std.proofs.Common.{subst}
+use Rattle.report_texts.specs.Lines.{switch_lines}
+use Rattle.dpi_program.specs.Commands.{IsPrinted, with_air}
+use Rattle.dpi_program.proofs.StatusLemmas.{both, went_through}
+use Rattle.dpi_program.proofs.program.splice.Goals as goal
+
+pub returns-clause-to_standard : goal.returns-clause-to_standard
+returns-clause-to_standard g c = λ off none zero.
+    let kept = c.tell_spliced.ensures.output none in
+    let (ran, h) = went_through c.run_splice_command-spliced.result c.tell_spliced.result _ c.tell_spliced.ensures.stopped zero
+    (both c.run_splice_command-spliced.result _ _ (c.run_splice_command-spliced.ensures.to_standard off none) (both c.run_splice_command-spliced.result _ _ (c.tell_spliced.ensures.told none zero) (c.run_splice_command-spliced.ensures.plain off))) in
+    (ran.report, rw kept h.0, subst (λ air. IsPrinted g.E.Write.contents (with_air (switch_lines ran.report) air)) h.1.1 h.1.0)
+
+pub returns-clause-to_file : goal.returns-clause-to_file
+returns-clause-to_file g c = λ off some zero.
+    let (ran, h) = went_through c.run_splice_command-spliced.result c.tell_spliced.result _ c.tell_spliced.ensures.stopped zero
+    (both c.run_splice_command-spliced.result _ _ (c.run_splice_command-spliced.ensures.to_file off some) (both c.run_splice_command-spliced.result _ _ (c.tell_spliced.ensures.printed some zero) (c.run_splice_command-spliced.ensures.plain off))) in
+    (ran.report, h.0, (c.run_splice_command-spliced.new.output, subst (λ air. Appends (g.O.Write.contents c.run_splice_command-spliced.new.output) (g.O.Write.contents c.tell_spliced.new.output) (with_air (switch_lines ran.report) air)) h.1.1 h.1.0))

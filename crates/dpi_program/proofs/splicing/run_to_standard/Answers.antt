@@ -1,0 +1,9 @@
+use Rattle.std.proofs.lemmas.Result.{IfOk-weaker}
+use Rattle.passages.proofs.PassageLemmas.{if_err_so}
+use Rattle.dpi_program.proofs.splicing.run_to_standard.Goals as goal
+
+pub returns-clause-done : goal.returns-clause-done
+returns-clause-done g c = λ off. IfOk-weaker c.run_ends.result _ _ (λ ran done. (c.in_ok-opened.opened, g.I.Read.remaining c.open_inputs.new.input, c.in_ok-opened.ensures.opened, done)) (c.run_ends.ensures.done off)
+
+pub returns-clause-stopped : goal.returns-clause-stopped
+returns-clause-stopped g c = λ off. if_err_so c.run_ends.result _ _ (λ stopped h flushed. (c.in_ok-opened.opened, g.I.Read.remaining c.open_inputs.new.input, c.in_ok-opened.ensures.opened, h flushed)) (c.run_ends.ensures.stopped off)
