@@ -25,7 +25,11 @@ mod inject_tests;
 #[cfg(test)]
 mod list_tests;
 #[cfg(test)]
+mod report_tests;
+#[cfg(test)]
 mod script_tests;
+#[cfg(test)]
+mod service_list_tests;
 #[cfg(test)]
 mod splice_tests;
 pub mod told;

@@ -126,6 +126,54 @@ fn advert(alloc: Global) -> Result<Vec<u8>, AllocError> {
     Ok(out)
 }
 
+/// The same, and a second unit a second later.
+fn longer_advert(alloc: Global) -> Result<Vec<u8>, AllocError> {
+    let mut out = advert(alloc)?;
+    let unit = [
+        0, 0, 1, 0xE0, 0, 0, 0x80, 0x80, 5, 0x21, 0, 5, 0xBF, 0x21, 0xA5, 0x5A,
+    ];
+    let start = out.len();
+    put_packet(&mut out, 0x100, &[], &unit)?;
+    if let Some(counter) = out.get_mut(start.saturating_add(3)) {
+        *counter = 0x31;
+    }
+    Ok(out)
+}
+
+/// How many units the first two seconds of the video of an advertisement have, up to two.
+fn count_units<M: Allocator + Copy>(library: &AdLibrary<M>, id: u16) -> u8 {
+    let Some(mut slice) = library.slice(id, 0x1B, 0, 180_000) else {
+        return 0;
+    };
+    if slice.next().is_none() {
+        return 0;
+    }
+    if slice.next().is_none() { 1 } else { 2 }
+}
+
+/// The advertisement of each line is of that line's own stream.
+#[test]
+fn each_line_has_its_own_stream(rt: HostRuntime) -> Result<(), Fail> {
+    let folder = env::temp_dir(&rt)?;
+    let short = folder.join(rt.alloc(), "program_tests_ad_short.ts")?;
+    let short = short.to_str().ok_or("a name")?;
+    let long = folder.join(rt.alloc(), "program_tests_ad_long.ts")?;
+    let long = long.to_str().ok_or("a name")?;
+    fs::write(&rt, short, advert(rt.alloc())?.as_slice())?;
+    fs::write(&rt, long, longer_advert(rt.alloc())?.as_slice())?;
+    let text = format!(in rt.alloc(); "1 {short}\n2 {long}\n3 {short}\n4 {long}")?;
+    let mut device = Device::new(Cursor::new(text.as_bytes()));
+    let Ok(library) = load_list(&rt, rt.alloc(), &mut device) else {
+        return Err(Fail::from("a good list"));
+    };
+    for (id, count) in [(1, 1), (2, 2), (3, 1), (4, 2), (5, 0)] {
+        expect_eq!(rt; (id, count_units(&library, id)), (id, count));
+    }
+    fs::remove_file(&rt, short)?;
+    fs::remove_file(&rt, long)?;
+    Ok(())
+}
+
 /// Whether the library holds the advertisement under 7 and 65,535, and under no number beside them.
 fn is_whole<M: Allocator + Copy>(library: &AdLibrary<M>) -> bool {
     [(7, true), (65_535, true), (0, false), (8, false)]

@@ -159,3 +159,25 @@ fn memory_is_refused_to_a_script(rt: HostRuntime) -> Result<(), Fail> {
     }
     Ok(())
 }
+
+/// In any memory the script is loaded or memory is refused: each request is refused in turn.
+#[test]
+fn each_request_of_a_script_is_refused(rt: HostRuntime) -> Result<(), Fail> {
+    let mut refused: u32 = 0;
+    for step in 1..=64 {
+        let heap = LocalHeap::new(rt.alloc(), 16 * step)?;
+        match fault_in(&heap, Vec::new(rt.alloc())) {
+            None => assert!(rt; step > 2),
+            Some(fault) => {
+                assert!(rt;
+                    fault == ScriptFault::OutOfMemory,
+                    "with {step} times 16 bytes"
+                );
+                refused = refused.saturating_add(1);
+            }
+        }
+        expect_eq!(rt; heap.used(), 0);
+    }
+    assert!(rt; refused > 2 && refused < 64);
+    Ok(())
+}
