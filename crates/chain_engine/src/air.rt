@@ -91,6 +91,8 @@ pub trait AirStage: Stage<Refusal = NetworkFault> {
     ///
     /// The sink's.
     fn pass_judged<K: PacketSink>(&mut self, packet: &Packet, out: &mut K) -> Result<(), PutFault>
+        ensures stage { Self.Stage.leads self.old self.new }
+        ensures leads { K.leads out.old out.new }
         ensures follows { (c : Purpose) (past : List (List ℕ)) → follows self.old c past
             → OnOk result (follows self.new c (packet.now ∷ past)) }
         ensures airs { (first : Self) (ended : List Stretch) (last : List Aired) (told : List Self.Report) (qs : List (List ℕ))
@@ -103,6 +105,8 @@ pub trait AirStage: Stage<Refusal = NetworkFault> {
     ///
     /// The sink's.
     fn pass_unjudged<K: PacketSink>(&mut self, packet: &Packet, out: &mut K) -> Result<(), PutFault>
+        ensures stage { Self.Stage.leads self.old self.new }
+        ensures leads { K.leads out.old out.new }
         ensures follows { (c : Purpose) (past : List (List ℕ)) → follows self.old c past
             → OnOk result (follows self.new c (marked packet.now ∷ past)) }
         ensures airs { (first : Self) (ended : List Stretch) (last : List Aired) (told : List Self.Report) (qs : List (List ℕ))
@@ -111,6 +115,7 @@ pub trait AirStage: Stage<Refusal = NetworkFault> {
 
     /// Begins anew: nothing more of an advertisement that runs is put. Tells of the packets since it began before.
     fn begin_anew(&mut self) -> StretchEnd<Self::Report>
+        ensures stage { Self.Stage.leads self.old self.new }
         ensures follows { (c : Purpose) (past : List (List ℕ)) → follows self.old c past → follows self.new c [] }
         ensures airs { (first : Self) (ended : List Stretch) (last : List Aired) (told : List Self.Report) (qs behind : List (List ℕ))
             → airs first ended last told qs self.old
@@ -122,6 +127,8 @@ pub trait AirStage: Stage<Refusal = NetworkFault> {
     ///
     /// The sink's.
     fn finish_last<K: PacketSink>(&mut self, out: &mut K) -> Result<Self::Report, PutFault>
+        ensures stage { Self.Stage.leads self.old self.new }
+        ensures leads { K.leads out.old out.new }
         ensures sends { (first : Self) (ps qs : List (List ℕ)) (kept : List ℕ) (start : Option (List ℕ)) (before : List (List ℕ))
             → Self.Stage.sends first ps qs kept self.old → K.holds out.old start (before ++ qs)
             → IfOk result (λ report. Ended Self.Stage.ends first ps report self.new (λ l. K.holds out.new start (before ++ l))) }

@@ -1,6 +1,6 @@
 -- The loops of a run on air.
-use Rattle.std.specs.Prelude.{All, is_some}
-use Rattle.std.proofs.Common.{◌≡◌, ℕ, List, [], ◌∷◌, ◌++◌, reverse, refl, ap, sym, ◌∙◌, append_assoc, Option, None, Some, true}
+use Rattle.std.specs.Prelude.{All, is_some, Result, Ok, Err, OnOk}
+use Rattle.std.proofs.Common.{◌≡◌, ℕ, List, [], ◌∷◌, ◌++◌, reverse, refl, ap, sym, subst, ◌∙◌, append_assoc, Option, None, Some, true}
 use Rattle.std.proofs.lemmas.List.{reverse-append, append-nil}
 use Rattle.ts_packet.specs.Packets.{packets_of}
 use Rattle.ts_packet.specs.Runs.{Seen, seen_after}
@@ -12,6 +12,8 @@ use Rattle.packet_runs.specs.Stops.{refusal_test}
 use Rattle.packet_runs.specs.declared.run.Stop.TheVariants.{Read, Packet}
 use Rattle.packet_runs.proofs.StopLemmas.{packets_stop}
 use Rattle.program_follower.specs.declared.purpose.Purpose.{Purpose}
+use Rattle.wire_fields.specs.Numbers.{AreBytes}
+use Rattle.cued_laws.specs.Laws.{ArePacketsOfBytes}
 use Rattle.on_air.specs.Stretches.{Entry, with_next, stretches}
 use Rattle.on_air.specs.AirRuns.{all_next}
 
@@ -43,3 +45,18 @@ pub no-fault : {N : Type 0} (refusal : Seen → Option N) (bs : List ℕ) (left 
 no-fault refusal bs left left' ps p why sound r g reason none =
     let stops = packets_stop refusal ps sound (λ bs passed rest. Unit {0}) (Some bs) left left' p r g (Packet why) reason (λ bs rest. tt) in
     let is = sym stops.says.0 ∙ none in absurd (cc)
+
+-- packets of bytes, behind others that are
+pub bytes-append : (l past : List (List ℕ)) → ArePacketsOfBytes l → ArePacketsOfBytes past → ArePacketsOfBytes (l ++ past)
+bytes-append [] past h k = k
+bytes-append (p ∷ l) past h k = (h.0, bytes-append l past h.1 k)
+
+pub bytes-next : (ps : List (List ℕ)) (p : List ℕ) → ArePacketsOfBytes (reverse ps) → AreBytes p → ArePacketsOfBytes (reverse (ps ++ p ∷ []))
+bytes-next ps p h is = subst ArePacketsOfBytes (sym (reverse-append ps (p ∷ []))) (is, h)
+
+pub bytes-behind : (ps qs : List (List ℕ)) → ArePacketsOfBytes (reverse ps) → ArePacketsOfBytes (reverse qs) → ArePacketsOfBytes (reverse (ps ++ qs))
+bytes-behind ps qs h k = subst ArePacketsOfBytes (sym (reverse-append ps qs)) (bytes-append (reverse qs) (reverse ps) k h)
+
+pub on-ok-always : {T E P : Type 0} (r : Result T E) → P → OnOk r P
+on-ok-always (Ok value) h = h
+on-ok-always (Err error) h = tt

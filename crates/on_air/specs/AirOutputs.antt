@@ -55,10 +55,10 @@ pub record BeganAnew {S R : Type 0} (summed : R → R → R) (airs : List Stretc
   pub airs_so : airs (record { packets = last; behind = tail_behind c read } ∷ ended) [] told (qs ++ tail_behind c read) stage
   pub out : is_out (qs ++ tail_behind c read)
 
--- The network has ended behind these stretches: all that went out is out, and this was counted, summed. `tells` is the stage's, from its first state.
+-- The network has ended behind these stretches, and left the stage so: all that went out is out, and this was counted, summed. `tells` is the
+-- stage's, from its first state.
 pub record EndsOnAir {S R : Type 0} (summed : R → R → R) (tells : List Stretch → List Aired → List R → List (List ℕ) → R → S → Type 0)
-    (c : Purpose) (ss : List (List Entry)) (report : R) (is_out : List (List ℕ) → Type 0) : Type 0 where
-  pub now : S
+    (c : Purpose) (ss : List (List Entry)) (report : R) (now : S) (is_out : List (List ℕ) → Type 0) : Type 0 where
   pub told : List R
   pub last : R
   pub sent : List (List ℕ)

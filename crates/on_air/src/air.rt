@@ -81,6 +81,8 @@ impl<R: Copy + Drop> Air<R> {
         out: &mut K,
         watch: &mut A,
     ) -> Result<(), PutFault>
+        ensures stage { S.Stage.leads stage.old stage.new }
+        ensures leads { K.leads out.old out.new }
         ensures stands { (c : Purpose) (ss : List (List Entry)) → AirStands self.old c ss → S.follows stage.old c (as_read (newest ss))
             → OnOk result (AirStands self.new c (with_next c packet.now ss)
             × S.follows stage.new c (as_read (newest (with_next c packet.now ss)))) }
@@ -115,6 +117,8 @@ impl<R: Copy + Drop> Air<R> {
         packet: &Packet,
         out: &mut K,
     ) -> Result<(), PutFault>
+        ensures stage { S.Stage.leads stage.old stage.new }
+        ensures leads { K.leads out.old out.new }
         ensures counted { Counted self.old self.new true }
         ensures follows { (c : Purpose) (past : List (List ℕ)) → S.follows stage.old c past
             → OnOk result (S.follows stage.new c (packet.now ∷ past)) }
@@ -137,6 +141,8 @@ impl<R: Copy + Drop> Air<R> {
         out: &mut K,
         watch: &mut A,
     ) -> Result<(), PutFault>
+        ensures stage { S.Stage.leads stage.old stage.new }
+        ensures leads { K.leads out.old out.new }
         ensures counted { Counted self.old self.new false }
         ensures follows { (c : Purpose) (past : List (List ℕ)) → S.follows stage.old c past
             → OnOk result (S.follows stage.new c (marked packet.now ∷ past)) }
@@ -166,6 +172,8 @@ impl<R: Copy + Drop> Air<R> {
         out: &mut K,
         watch: &mut A,
     ) -> Result<(), PutFault>
+        ensures stage { S.Stage.leads stage.old stage.new }
+        ensures leads { K.leads out.old out.new }
         ensures marks { (c : Purpose) → Keeps self.new.marks c [] }
         ensures counts { (self.new.is_empty ≡ true) × (self.new.stretches ≡ self.old.stretches) × (self.new.unjudged ≡ self.old.unjudged) }
         ensures follows { (c : Purpose) (past : List (List ℕ)) → S.follows stage.old c past → S.follows stage.new c [] }

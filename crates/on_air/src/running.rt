@@ -1,6 +1,6 @@
 //! Whole runs on air: up to the network's first fault as any other, and behind it stretch by stretch.
 
-ghost use Rattle.std.specs.Prelude.{◌≡◌, ◌<◌, ◌^◌, ◌+◌, cond, ℕ, List, [], ◌++◌, Option, None, Some, false, OnOk, IfOk, IfErr};
+ghost use Rattle.std.specs.Prelude.{◌≡◌, ◌<◌, ◌^◌, ◌+◌, cond, ℕ, List, [], ◌++◌, reverse, Option, None, Some, false, OnOk, IfOk, IfErr};
 ghost use Rattle.ts_packet.specs.Packets.{packets_of};
 ghost use Rattle.ts_packet.specs.Sources.{GivesInto};
 ghost use Rattle.program_follower.specs.declared.purpose.Purpose.{Purpose};
@@ -8,6 +8,8 @@ ghost use Rattle.packet_runs.specs.Stages.{Ended};
 ghost use Rattle.ts_packet.specs.FirstFault.{first_fault};
 ghost use Rattle.packet_runs.specs.Stops.{refusal_test};
 ghost use Rattle.program_follower.specs.Purposes.{reading_cues, writing_cues};
+ghost use Rattle.wire_fields.specs.Numbers.{AreBytes};
+ghost use Rattle.cued_laws.specs.Laws.{ArePacketsOfBytes};
 ghost use Rattle.ad_library.specs.Library.{held};
 ghost use Rattle.chain_engine.specs.Chains.{ChainStandsFor};
 ghost use Rattle.chain_engine.specs.Runs.{Exchanged, Injected};
@@ -26,7 +28,7 @@ use crate::report::AirReport;
 use crate::watch::AirWatch;
 use ad_library::AdLibrary;
 use chain_engine::{
-    AirStage, Automation, Chain, ChainStage, InjectorStage, Report, RunFault, SwitchStage,
+    AirStage, Automation, Chain, ChainStage, InjectorStage, Report, RunFault, SwitchStage, of_bytes,
 };
 use packet_runs::{Stage, StageFault, Stop};
 use psi_tables::{Config, FeedFault};
@@ -55,6 +57,9 @@ pub fn read_next<P: PausingPackets, K: GatheringSink>(
     ensures read { IfOk result (λ more. GivesInto (P.left network.old) (P.left network.new) more next.new) }
     ensures given { IfOk result (λ more. (P.given network.new ≡ P.given network.old + cond more 1 0) × (P.given network.new < 2 ^ 64)) }
     ensures held { (start : Option (List ℕ)) (ps : List (List ℕ)) → K.holds out.old start ps → OnOk result (K.holds out.new start ps) }
+    ensures bytes { OnOk result (AreBytes next.new) }
+    ensures reads { P.leads network.old network.new }
+    ensures leads { K.leads out.old out.new }
     ensures devices { IfErr result IsOfDevices }
 {
     if network.next_may_wait() {
@@ -64,7 +69,10 @@ pub fn read_next<P: PausingPackets, K: GatheringSink>(
         }
     }
     match network.read_packet(next) {
-        Ok(more) => Ok(more),
+        Ok(more) => {
+            of_bytes(next);
+            Ok(more)
+        }
         Err(fault) => Err(RunFault::Read(fault)),
     }
 }
@@ -82,7 +90,9 @@ where
     ensures told { IfOk result (λ told. (told.stretches ≡ air.now.stretches) × (told.unjudged ≡ air.now.unjudged)) }
     ensures out { (first : S) (c : Purpose) (ss : List (List Entry)) (start : Option (List ℕ)) (before : List (List ℕ))
         → IsOnAir S.summed (S.airs first) air.now stage.old c ss (λ l. K.holds out.old start (before ++ l))
-        → IfOk result (λ told. EndsOnAir S.summed (S.airs_to_end first) c ss told.report (λ l. K.holds out.new start (before ++ l))) }
+        → IfOk result (λ told. EndsOnAir S.summed (S.airs_to_end first) c ss told.report stage.new (λ l. K.holds out.new start (before ++ l))) }
+    ensures stage { S.Stage.leads stage.old stage.new }
+    ensures leads { K.leads out.old out.new }
     ensures devices { IfErr result IsOfDevices }
 {
     match stage.finish_last(out) {
@@ -111,8 +121,12 @@ where
     ensures out { (first : S) (c : Purpose) (ss : List (List Entry)) (start : Option (List ℕ)) (before : List (List ℕ)) (bs : List ℕ)
         → AirStands air.old c ss → S.follows stage.old c (as_read (newest ss))
         → IsOnAir S.summed (S.airs first) air.old stage.old c ss (λ l. K.holds out.old start (before ++ l)) → P.left network.old ≡ Some bs
-        → IfOk result (λ told. EndsOnAir S.summed (S.airs_to_end first) c (all_next c (packets_of bs) ss) told.report
+        → IfOk result (λ told. EndsOnAir S.summed (S.airs_to_end first) c (all_next c (packets_of bs) ss) told.report stage.new
         (λ l. K.holds out.new start (before ++ l))) }
+    ensures bytes { (bs : List ℕ) → P.left network.old ≡ Some bs → OnOk result (ArePacketsOfBytes (reverse (packets_of bs))) }
+    ensures stage { S.Stage.leads stage.old stage.new }
+    ensures reads { P.leads network.old network.new }
+    ensures leads { K.leads out.old out.new }
     ensures devices { IfErr result IsOfDevices }
 {
     let mut next = Packet::null();
@@ -150,14 +164,18 @@ where
     ensures sound { (start : Option (List ℕ)) (before : List (List ℕ)) (bs : List ℕ)
         → ((kept : List ℕ) → S.sends stage.old [] [] kept stage.old) → K.holds out.old start before → P.left network.old ≡ Some bs
         → first_fault Stop.Read (refusal_test (S.refusal stage.old)) bs ≡ None
-        → IfOk result (λ told. (now : S) × GoesPlainly (S.ends stage.old) bs told now (λ l. K.holds out.new start (before ++ l))) }
+        → IfOk result (λ told. GoesPlainly (S.ends stage.old) bs told stage.new (λ l. K.holds out.new start (before ++ l))) }
     ensures stretches { (c : Purpose) (start : Option (List ℕ)) (before : List (List ℕ)) (bs : List ℕ) → S.begins stage.old c
         → ((kept : List ℕ) → S.sends stage.old [] [] kept stage.old) → K.holds out.old start before → P.left network.old ≡ Some bs
         → IfOk result (λ told. TellsStretches told c bs) }
     ensures out { (c : Purpose) (start : Option (List ℕ)) (before : List (List ℕ)) (bs : List ℕ) → S.begins stage.old c → S.tells_out stage.old
         → ((kept : List ℕ) → S.sends stage.old [] [] kept stage.old) → K.holds out.old start before → P.left network.old ≡ Some bs
-        → IfOk result (λ told. EndsOnAir S.summed (S.airs_to_end stage.old) c (stretches_in c bs) told.report
+        → IfOk result (λ told. EndsOnAir S.summed (S.airs_to_end stage.old) c (stretches_in c bs) told.report stage.new
         (λ l. K.holds out.new start (before ++ l))) }
+    ensures bytes { (bs : List ℕ) → P.left network.old ≡ Some bs → OnOk result (ArePacketsOfBytes (reverse (packets_of bs))) }
+    ensures stage { S.Stage.leads stage.old stage.new }
+    ensures reads { P.leads network.old network.new }
+    ensures leads { K.leads out.old out.new }
     ensures devices { IfErr result IsOfDevices }
 {
     let mut air = Air::new();
@@ -202,15 +220,18 @@ pub fn run_on_air<M: Allocator, P: PausingPackets, U: Automation, K: GatheringSi
     requires { P.is_broken network.old ≡ false }
     ensures sound { (c : Config) (start : Option (List ℕ)) (before : List (List ℕ)) (bs : List ℕ) → ChainStandsFor chain c
         → K.holds out.old start before → P.left network.old ≡ Some bs → IsSound (writing_cues c) bs
-        → IfOk result (λ told. (later : U) × RunsPlainly (Ran c (held library.now) bs (λ ps. K.holds out.new start (before ++ ps))
-        (Exchanged U.exchanges U.failures automation.old later)) bs told) }
+        → IfOk result (λ told. RunsPlainly (Ran c (held library.now) bs (λ ps. K.holds out.new start (before ++ ps))
+        (Exchanged U.exchanges U.failures automation.old automation.new)) bs told) }
     ensures stretches { (c : Config) (start : Option (List ℕ)) (before : List (List ℕ)) (bs : List ℕ) → ChainStandsFor chain c
         → K.holds out.old start before → P.left network.old ≡ Some bs
         → IfOk result (λ told. TellsStretches told (writing_cues c) bs) }
     ensures out { (c : Config) (start : Option (List ℕ)) (before : List (List ℕ)) (bs : List ℕ) → ChainStandsFor chain c
         → K.holds out.old start before → P.left network.old ≡ Some bs
-        → IfOk result (λ told. (later : U) × RanOnAir c (held library.now) bs (λ ps. K.holds out.new start (before ++ ps))
-        (Exchanged U.exchanges U.failures automation.old later) told.report) }
+        → IfOk result (λ told. RanOnAir c (held library.now) bs (λ ps. K.holds out.new start (before ++ ps))
+        (Exchanged U.exchanges U.failures automation.old automation.new) told.report) }
+    ensures bytes { (bs : List ℕ) → P.left network.old ≡ Some bs → OnOk result (ArePacketsOfBytes (reverse (packets_of bs))) }
+    ensures reads { P.leads network.old network.new }
+    ensures leads { K.leads out.old out.new }
     ensures devices { IfErr result IsOfDevices }
 {
     let mut chain = chain;
@@ -235,15 +256,18 @@ pub fn inject_on_air<M: Allocator, P: PausingPackets, U: Automation, K: Gatherin
     requires { P.is_broken network.old ≡ false }
     ensures sound { (c : Config) (start : Option (List ℕ)) (before : List (List ℕ)) (bs : List ℕ) → ChainStandsFor chain c
         → K.holds out.old start before → P.left network.old ≡ Some bs → IsSound (writing_cues c) bs
-        → IfOk result (λ told. (later : U) × RunsPlainly (Injected c bs (λ ps. K.holds out.new start (before ++ ps))
-        (Exchanged U.exchanges U.failures automation.old later)) bs told) }
+        → IfOk result (λ told. RunsPlainly (Injected c bs (λ ps. K.holds out.new start (before ++ ps))
+        (Exchanged U.exchanges U.failures automation.old automation.new)) bs told) }
     ensures stretches { (c : Config) (start : Option (List ℕ)) (before : List (List ℕ)) (bs : List ℕ) → ChainStandsFor chain c
         → K.holds out.old start before → P.left network.old ≡ Some bs
         → IfOk result (λ told. TellsStretches told (writing_cues c) bs) }
     ensures out { (c : Config) (start : Option (List ℕ)) (before : List (List ℕ)) (bs : List ℕ) → ChainStandsFor chain c
         → K.holds out.old start before → P.left network.old ≡ Some bs
-        → IfOk result (λ told. (later : U) × InjectedOnAir c bs (λ ps. K.holds out.new start (before ++ ps))
-        (Exchanged U.exchanges U.failures automation.old later) told.report) }
+        → IfOk result (λ told. InjectedOnAir c bs (λ ps. K.holds out.new start (before ++ ps))
+        (Exchanged U.exchanges U.failures automation.old automation.new) told.report) }
+    ensures bytes { (bs : List ℕ) → P.left network.old ≡ Some bs → OnOk result (ArePacketsOfBytes (reverse (packets_of bs))) }
+    ensures reads { P.leads network.old network.new }
+    ensures leads { K.leads out.old out.new }
     ensures devices { IfErr result IsOfDevices }
 {
     let mut chain = chain;
@@ -274,6 +298,9 @@ pub fn splice_on_air<P: PausingPackets, K: GatheringSink, A: AirWatch>(
     ensures out { (start : Option (List ℕ)) (before : List (List ℕ)) (bs : List ℕ) → K.holds out.old start before
         → P.left network.old ≡ Some bs
         → IfOk result (λ told. SplicedOnAir config (held library.now) bs (λ ps. K.holds out.new start (before ++ ps)) told.report) }
+    ensures bytes { (bs : List ℕ) → P.left network.old ≡ Some bs → OnOk result (ArePacketsOfBytes (reverse (packets_of bs))) }
+    ensures reads { P.leads network.old network.new }
+    ensures leads { K.leads out.old out.new }
     ensures devices { IfErr result IsOfDevices }
 {
     let mut stage = SwitchStage::new(config, library);

@@ -167,7 +167,8 @@ impl MapTail {
 
     /// Puts the packets that have brought a part of a section, as they came; none where there are more than 32.
     pub fn put<K: PacketSink>(&self, out: &mut K) -> Result<(), PutFault>
-        ensures { (known : Option ℕ) (since : List (List ℕ)) (start : Option (List ℕ)) (before : List (List ℕ))
+        ensures leads { K.leads out.old out.new }
+        ensures puts { (known : Option ℕ) (since : List (List ℕ)) (start : Option (List ℕ)) (before : List (List ℕ))
             → TailStands self.now known since → K.holds out.old start before → OnOk result (K.holds out.new start (before ++ tail_on known since)) }
     {
         if self.count > MOST {

@@ -9,6 +9,12 @@ use Rattle.packet_runs.specs.declared.run.Stop.{Stop}
 use Rattle.packet_runs.specs.declared.run.Stop.TheVariants as stop
 use Rattle.packet_runs.specs.declared.stage.StageFault.{StageFault}
 use Rattle.packet_runs.specs.declared.stage.StageFault.TheVariants.{Packet, Sink}
+use Rattle.program_follower.specs.declared.purpose.Purpose.{Purpose}
+use Rattle.chain_engine.specs.Airing.{Aired, Stretch}
+use Rattle.on_air.specs.Stretches.{Entry}
+use Rattle.on_air.specs.Plain.{GoesPlainly}
+use Rattle.on_air.specs.AirOutputs.{EndsOnAir}
+use Rattle.on_air.specs.declared.report.AirReport.{AirReport}
 
 pub step_fails_so : {S T N : Type 0} (inner : T → S) (refusal : S → Seen → Option N) (refuses : S → List (List ℕ) → List (List ℕ) → List ℕ → S → Type 0)
     (breaks : S → List (List ℕ) → Option (List ℕ) → List (List ℕ) → List ℕ → S → Type 0) (fault : StageFault N) (first : T) (ps : List (List ℕ)) (p : List ℕ) (now : T)
@@ -68,3 +74,15 @@ stops_so inner sends refuses breaks refusal fault first now is_out fails unsent 
   says = h.says;
   left = leaves_so inner sends refuses breaks refusal fault first now is_out fails unsent bs h.passed h.rest h.left;
 }
+
+-- ---- on air
+
+pub plainly_so : {S T R : Type 0} (inner : T → S) (ends : List (List ℕ) → List (List ℕ) → R → S → Type 0) (bs : List ℕ) (told : AirReport R) (now : T) (is_out : List (List ℕ) → Type 0)
+    → GoesPlainly (λ ps qs r n. ends ps qs r (inner n)) bs told now is_out → GoesPlainly ends bs told (inner now) is_out
+plainly_so inner ends bs told now is_out h = record { sent = h.sent; report = h.report; ends_so = h.ends_so; tells = h.tells; out = h.out }
+
+pub ends_on_air_so : {S T R : Type 0} (inner : T → S) (summed : R → R → R) (tells : List Stretch → List Aired → List R → List (List ℕ) → R → S → Type 0) (c : Purpose)
+    (ss : List (List Entry)) (report : R) (now : T) (is_out : List (List ℕ) → Type 0)
+    → EndsOnAir summed (λ ended last told qs r n. tells ended last told qs r (inner n)) c ss report now is_out → EndsOnAir summed tells c ss report (inner now) is_out
+ends_on_air_so inner summed tells c ss report now is_out h =
+    record { told = h.told; last = h.last; sent = h.sent; tells_so = h.tells_so; summed_so = h.summed_so; out = h.out }

@@ -1,30 +1,25 @@
 //! Whole runs on air that are looked at between their packets.
 
-ghost use Rattle.std.specs.Prelude.{◌≡◌, ◌<◌, ◌^◌, ◌+◌, cond, ℕ, List, [], ◌++◌, Option, None, Some, false, OnOk, IfOk, IfErr};
+ghost use Rattle.std.specs.Prelude.{◌≡◌, ℕ, List, ◌++◌, reverse, Option, Some, false, OnOk, IfOk, IfErr};
 ghost use Rattle.ts_packet.specs.Packets.{packets_of};
-ghost use Rattle.ts_packet.specs.Sources.{GivesInto};
-ghost use Rattle.program_follower.specs.declared.purpose.Purpose.{Purpose};
-ghost use Rattle.packet_runs.specs.Stages.{Ended};
-ghost use Rattle.ts_packet.specs.FirstFault.{first_fault};
-ghost use Rattle.packet_runs.specs.Stops.{refusal_test};
+ghost use Rattle.cued_laws.specs.Laws.{ArePacketsOfBytes};
 ghost use Rattle.program_follower.specs.Purposes.{reading_cues, writing_cues};
 ghost use Rattle.ad_library.specs.Library.{held};
 ghost use Rattle.chain_engine.specs.Chains.{ChainStandsFor};
 ghost use Rattle.chain_engine.specs.Runs.{Exchanged, Injected};
 ghost use Rattle.chain_engine.specs.Splices.{Spliced};
 ghost use Rattle.chain_engine.specs.ChainRuns.{Ran};
-ghost use Rattle.on_air.specs.Plain.{IsPlain, IsToldPlain, GoesPlainly, IsSound, RunsPlainly, IsOfDevices};
-ghost use Rattle.on_air.specs.Stretches.{Entry, as_read};
+ghost use Rattle.on_air.specs.Plain.{IsSound, RunsPlainly, IsOfDevices};
 ghost use Rattle.on_air.specs.AirRuns.{TellsStretches};
 ghost use Rattle.on_air.specs.AirChains.{RanOnAir};
 ghost use Rattle.on_air.specs.AirInjects.{InjectedOnAir};
 ghost use Rattle.on_air.specs.AirSplices.{SplicedOnAir};
 
-use crate::told::{Sight, Told};
+use crate::stage_air::run_air_told;
 use crate::watch::Watch;
 use ad_library::AdLibrary;
 use chain_engine::{Automation, Chain, ChainStage, InjectorStage, Report, RunFault, SwitchStage};
-use on_air::{AirReport, AirWatch, run_air};
+use on_air::{AirReport, AirWatch};
 use psi_tables::Config;
 use splice_switch::SwitchReport;
 use std::alloc::Allocator;
@@ -54,24 +49,24 @@ pub fn run_told_on_air<
     requires { P.is_broken network.old ≡ false }
     ensures sound { (c : Config) (start : Option (List ℕ)) (before : List (List ℕ)) (bs : List ℕ) → ChainStandsFor chain c
         → K.holds out.old start before → P.left network.old ≡ Some bs → IsSound (writing_cues c) bs
-        → IfOk result (λ told. (later : U) × RunsPlainly (Ran c (held library.now) bs (λ ps. K.holds out.new start (before ++ ps))
-        (Exchanged U.exchanges U.failures automation.old later)) bs told) }
+        → IfOk result (λ told. RunsPlainly (Ran c (held library.now) bs (λ ps. K.holds out.new start (before ++ ps))
+        (Exchanged U.exchanges U.failures automation.old automation.new)) bs told) }
     ensures stretches { (c : Config) (start : Option (List ℕ)) (before : List (List ℕ)) (bs : List ℕ) → ChainStandsFor chain c
         → K.holds out.old start before → P.left network.old ≡ Some bs
         → IfOk result (λ told. TellsStretches told (writing_cues c) bs) }
     ensures out { (c : Config) (start : Option (List ℕ)) (before : List (List ℕ)) (bs : List ℕ) → ChainStandsFor chain c
         → K.holds out.old start before → P.left network.old ≡ Some bs
-        → IfOk result (λ told. (later : U) × RanOnAir c (held library.now) bs (λ ps. K.holds out.new start (before ++ ps))
-        (Exchanged U.exchanges U.failures automation.old later) told.report) }
+        → IfOk result (λ told. RanOnAir c (held library.now) bs (λ ps. K.holds out.new start (before ++ ps))
+        (Exchanged U.exchanges U.failures automation.old automation.new) told.report) }
+    ensures bytes { (bs : List ℕ) → P.left network.old ≡ Some bs → OnOk result (ArePacketsOfBytes (reverse (packets_of bs))) }
+    ensures reads { P.leads network.old network.new }
+    ensures leads { K.leads out.old out.new }
     ensures devices { IfErr result IsOfDevices }
 {
     let mut chain = chain;
     let config = chain.config();
     let mut stage = ChainStage::new(&mut chain, automation, library, &config);
-    let mut listener = listener;
-    let mut sight = Sight::of(&stage, &listener);
-    let mut told = Told::new(&mut stage, &mut listener, &mut sight);
-    run_air(&mut told, network, out, watch)
+    run_air_told(&mut stage, network, out, watch, listener)
 }
 
 /// Runs on air as [`on_air::inject_on_air`] does, and tells of it.
@@ -97,24 +92,24 @@ pub fn inject_told_on_air<
     requires { P.is_broken network.old ≡ false }
     ensures sound { (c : Config) (start : Option (List ℕ)) (before : List (List ℕ)) (bs : List ℕ) → ChainStandsFor chain c
         → K.holds out.old start before → P.left network.old ≡ Some bs → IsSound (writing_cues c) bs
-        → IfOk result (λ told. (later : U) × RunsPlainly (Injected c bs (λ ps. K.holds out.new start (before ++ ps))
-        (Exchanged U.exchanges U.failures automation.old later)) bs told) }
+        → IfOk result (λ told. RunsPlainly (Injected c bs (λ ps. K.holds out.new start (before ++ ps))
+        (Exchanged U.exchanges U.failures automation.old automation.new)) bs told) }
     ensures stretches { (c : Config) (start : Option (List ℕ)) (before : List (List ℕ)) (bs : List ℕ) → ChainStandsFor chain c
         → K.holds out.old start before → P.left network.old ≡ Some bs
         → IfOk result (λ told. TellsStretches told (writing_cues c) bs) }
     ensures out { (c : Config) (start : Option (List ℕ)) (before : List (List ℕ)) (bs : List ℕ) → ChainStandsFor chain c
         → K.holds out.old start before → P.left network.old ≡ Some bs
-        → IfOk result (λ told. (later : U) × InjectedOnAir c bs (λ ps. K.holds out.new start (before ++ ps))
-        (Exchanged U.exchanges U.failures automation.old later) told.report) }
+        → IfOk result (λ told. InjectedOnAir c bs (λ ps. K.holds out.new start (before ++ ps))
+        (Exchanged U.exchanges U.failures automation.old automation.new) told.report) }
+    ensures bytes { (bs : List ℕ) → P.left network.old ≡ Some bs → OnOk result (ArePacketsOfBytes (reverse (packets_of bs))) }
+    ensures reads { P.leads network.old network.new }
+    ensures leads { K.leads out.old out.new }
     ensures devices { IfErr result IsOfDevices }
 {
     let mut chain = chain;
     let config = chain.config();
     let mut stage = InjectorStage::new(&mut chain, automation, &config);
-    let mut listener = listener;
-    let mut sight = Sight::of(&stage, &listener);
-    let mut told = Told::new(&mut stage, &mut listener, &mut sight);
-    run_air(&mut told, network, out, watch)
+    run_air_told(&mut stage, network, out, watch, listener)
 }
 
 /// Runs on air as [`on_air::splice_on_air`] does, and tells of it.
@@ -139,11 +134,11 @@ pub fn splice_told_on_air<P: PausingPackets, K: GatheringSink, A: AirWatch, W: W
     ensures out { (start : Option (List ℕ)) (before : List (List ℕ)) (bs : List ℕ) → K.holds out.old start before
         → P.left network.old ≡ Some bs
         → IfOk result (λ told. SplicedOnAir config (held library.now) bs (λ ps. K.holds out.new start (before ++ ps)) told.report) }
+    ensures bytes { (bs : List ℕ) → P.left network.old ≡ Some bs → OnOk result (ArePacketsOfBytes (reverse (packets_of bs))) }
+    ensures reads { P.leads network.old network.new }
+    ensures leads { K.leads out.old out.new }
     ensures devices { IfErr result IsOfDevices }
 {
     let mut stage = SwitchStage::new(config, library);
-    let mut listener = listener;
-    let mut sight = Sight::of(&stage, &listener);
-    let mut told = Told::new(&mut stage, &mut listener, &mut sight);
-    run_air(&mut told, network, out, watch)
+    run_air_told(&mut stage, network, out, watch, listener)
 }

@@ -1,6 +1,8 @@
 //! Whole runs of several services on air that are looked at between their packets.
 
-ghost use Rattle.std.specs.Prelude.{◌≡◌, ℕ, List, [], ◌++◌, length, Option, Some, false, IfOk, IfErr};
+ghost use Rattle.std.specs.Prelude.{◌≡◌, ℕ, List, [], ◌++◌, length, reverse, Option, Some, false, OnOk, IfOk, IfErr};
+ghost use Rattle.ts_packet.specs.Packets.{packets_of};
+ghost use Rattle.cued_laws.specs.Laws.{ArePacketsOfBytes};
 ghost use Rattle.psi_tables.specs.declared.config.Config.{Config};
 ghost use Rattle.on_air.specs.Plain.{IsOfDevices};
 ghost use Rattle.service_laws.specs.Services.{ServiceTerms, configs_of};
@@ -219,8 +221,11 @@ where
     ensures out { (ts : List ServiceTerms) (start : Option (List ℕ)) (before : List (List ℕ)) (bs : List ℕ)
         → AirServicesStandFor services (configs_of ts) [] → AirServicesBegin services (configs_of ts) → FiledAs libraries.now ts
         → K.holds out.old start before → P.left network.old ≡ Some bs
-        → IfOk result (λ told. (later : U) × ServicesOnAir ts bs (λ ps. K.holds out.new start (before ++ ps))
-        (Exchanged U.exchanges U.failures automation.old later) told) }
+        → IfOk result (λ told. ServicesOnAir ts bs (λ ps. K.holds out.new start (before ++ ps))
+        (Exchanged U.exchanges U.failures automation.old automation.new) told) }
+    ensures bytes { (bs : List ℕ) → P.left network.old ≡ Some bs → OnOk result (ArePacketsOfBytes (reverse (packets_of bs))) }
+    ensures reads { P.leads network.old network.new }
+    ensures leads { K.leads out.old out.new }
     ensures devices { IfErr result IsOfDevices }
 {
     if !listener.is_on() {

@@ -11,6 +11,7 @@ mod hearing;
 mod misfit;
 mod occurrence;
 mod runs;
+mod stage_air;
 mod stage_run;
 mod stages;
 mod told;

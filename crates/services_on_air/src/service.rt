@@ -207,6 +207,7 @@ impl AirService {
         out: &mut K,
         watch: &mut A,
     ) -> Result<(), PutFault>
+        ensures leads { K.leads out.old out.new }
         ensures stands { (c : Config) (ss : List (List Entry)) → self.old.service.config ≡ c → self.old.begun ≡ capped (behind_first ss)
             → has_no ss ≡ false → OnOk result (IsSettled self.new packet.now (anew_with packet.now c ss)) }
         ensures out { (t : ServiceTerms) (g : Gone) (start : Option (List ℕ)) (ps : List (List ℕ)) → held library.now ≡ t.filed
@@ -235,6 +236,7 @@ impl AirService {
         out: &mut K,
         watch: &mut A,
     ) -> Result<(), PutFault>
+        ensures leads { K.leads out.old out.new }
         ensures stands { (a : Airing) → AirStandsFor self.old a
             → OnOk result (IsSettled self.new next.entry.packet.now (next_of next.entry.packet.now a)) }
         ensures out { (a : Airing) (t : ServiceTerms) (g : Gone) (start : Option (List ℕ)) (ps : List (List ℕ)) → AirStandsFor self.old a
@@ -299,6 +301,7 @@ impl AirService {
         out: &mut K,
         watch: &mut A,
     ) -> Result<(), PutFault>
+        ensures leads { K.leads out.old out.new }
         ensures stands { (c : Config) (ss : List (List Entry)) → self.old.service.config ≡ c → self.old.begun ≡ capped (behind_first ss)
             → has_no ss ≡ false → BeginsBehind self.new c ss }
         ensures out { (t : ServiceTerms) (g : Gone) (start : Option (List ℕ)) (ps : List (List ℕ)) → held library.now ≡ t.filed
@@ -345,6 +348,7 @@ impl AirService {
         library: &AdLibrary,
         out: &mut K,
     ) -> Result<(), PutFault>
+        ensures leads { K.leads out.old out.new }
         ensures stands { (a : Airing) → IsSettled self.old packet.now a → OnOk result (AirStandsFor self.new a) }
         ensures unjudged { self.new.is_unjudged ≡ self.old.is_unjudged }
         ensures out { (t : ServiceTerms) (g : Gone) (start : Option (List ℕ)) (ps : List (List ℕ)) → held library.now ≡ t.filed
@@ -371,6 +375,7 @@ impl AirService {
         library: &AdLibrary,
         out: &mut K,
     ) -> Result<Passed, PutFault>
+        ensures leads { K.leads out.old out.new }
         ensures stands { (a : Airing) → IsSettled self.old packet.now a → is_own ≡ owns packet.now a → known ≡ length (known_before a)
             → IfOk result (λ passed. AirStandsFor self.new a × IsPassed passed packet.now a) }
         ensures out { (t : ServiceTerms) (g : Gone) (start : Option (List ℕ)) (ps : List (List ℕ)) → held library.now ≡ t.filed
@@ -401,6 +406,7 @@ impl AirService {
         library: &AdLibrary,
         out: &mut K,
     ) -> Result<Passed, PutFault>
+        ensures leads { K.leads out.old out.new }
         ensures stands { (a : Airing) → IsSettled self.old packet.now a
             → IfOk result (λ passed. AirStandsFor self.new a × IsPassed passed packet.now a) }
         ensures out { (t : ServiceTerms) (g : Gone) (start : Option (List ℕ)) (ps : List (List ℕ)) → held library.now ≡ t.filed
@@ -429,7 +435,8 @@ impl AirService {
         out: &mut K,
         watch: &mut A,
     ) -> Result<SwitchReport, PutFault>
-        ensures { (t : ServiceTerms) (g : Gone) (start : Option (List ℕ)) (ps : List (List ℕ)) → held library.now ≡ t.filed
+        ensures leads { K.leads out.old out.new }
+        ensures puts { (t : ServiceTerms) (g : Gone) (start : Option (List ℕ)) (ps : List (List ℕ)) → held library.now ≡ t.filed
             → HasGone self.old t g → K.holds out.old start ps
             → IfOk result (λ report. K.holds out.new start (ps ++ put_last t g)
             × ReportIs report (counts_to_end t g)) }

@@ -75,6 +75,7 @@ fn settle_each<K: PacketSink, A: ServicesWatch>(
     out: &mut K,
     watch: &mut A,
 ) -> Result<(), PutFault>
+    ensures leads { K.leads out.old out.new }
     ensures stands { (xs : List Airing) → AllStand services.old xs → length libraries.now ≡ length xs
         → OnOk result (AllSettled services.new next.entry.packet.now (nexts next.entry.packet.now xs)) }
     ensures out { (xs : List Airing) (ts : List ServiceTerms) (gs : List Gone) (start : Option (List ℕ)) (ps : List (List ℕ))
@@ -105,6 +106,7 @@ fn pass_each<K: PacketSink>(
     packet: &Packet,
     out: &mut K,
 ) -> Result<Passed, PutFault>
+    ensures leads { K.leads out.old out.new }
     ensures stands { (xs : List Airing) → AllSettled services.old packet.now xs → length libraries.now ≡ length xs
         → IfOk result (λ passed. AllStand services.new xs × ArePassed passed packet.now xs) }
     ensures out { (ys : List Airing) (ts : List ServiceTerms) (gs : List Gone) (start : Option (List ℕ)) (ps : List (List ℕ))
@@ -140,7 +142,8 @@ fn finish_each<K: PacketSink, A: ServicesWatch>(
     out: &mut K,
     watch: &mut A,
 ) -> Result<(), PutFault>
-    ensures { (ts : List ServiceTerms) (gs : List Gone) (start : Option (List ℕ)) (ps : List (List ℕ)) → FiledAs libraries.now ts
+    ensures leads { K.leads out.old out.new }
+    ensures puts { (ts : List ServiceTerms) (gs : List Gone) (start : Option (List ℕ)) (ps : List (List ℕ)) → FiledAs libraries.now ts
         → AllGone services.old ts gs → K.holds out.old start ps
         → OnOk result (AddsOnAir events.old.items events.new.items ts gs × K.holds out.new start (ps ++ puts_last ts gs)) }
 {
@@ -277,6 +280,7 @@ impl<M: Allocator> AirServices<M> {
         out: &mut K,
         watch: &mut A,
     ) -> Result<(), PutFault>
+        ensures leads { K.leads out.old out.new }
         ensures stands { (cs : List Config) (past : List (List ℕ)) → AirServicesStandFor self.old cs past → length libraries.now ≡ length cs
             → OnOk result (AreSettled self.new cs next.entry.packet.now past) }
         ensures out { (ts : List ServiceTerms) (past before : List (List ℕ)) (takes : List Take) (rs : List Reply) (start : Option (List ℕ))
@@ -314,6 +318,7 @@ impl<M: Allocator> AirServices<M> {
         libraries: &[AdLibrary],
         out: &mut K,
     ) -> Result<Passed, PutFault>
+        ensures leads { K.leads out.old out.new }
         ensures stands { (cs : List Config) (past : List (List ℕ)) → AreSettled self.old cs packet.now past → length libraries.now ≡ length cs
             → IfOk result (HavePassed self.new cs packet.now past) }
         ensures out { (ts : List ServiceTerms) (past before : List (List ℕ)) (takes : List Take) (rs : List Reply) (start : Option (List ℕ))
@@ -378,6 +383,7 @@ impl<M: Allocator> AirServices<M> {
         out: &mut K,
         watch: &mut A,
     ) -> Result<(), PutFault>
+        ensures leads { K.leads out.old out.new }
         ensures stands { (cs : List Config) (past : List (List ℕ)) → AirServicesStandFor self.old cs past → length libraries.now ≡ length cs
             → OnOk result (AirServicesStandFor self.new cs (packet.now ∷ past)) }
         ensures out { (ts : List ServiceTerms) (past before : List (List ℕ)) (start : Option (List ℕ)) (first : U)
@@ -417,6 +423,7 @@ impl<M: Allocator> AirServices<M> {
         out: &mut K,
         watch: &mut A,
     ) -> Result<AirReport<ServiceReport>, PutFault>
+        ensures leads { K.leads out.old out.new }
         ensures stands { (cs : List Config) (past : List (List ℕ)) → AirServicesStandFor self.old cs past
             → IfOk result (λ told. TellsOfAll told cs past) }
         ensures out { (ts : List ServiceTerms) (past before : List (List ℕ)) (takes : List Take) (rs : List Reply) (start : Option (List ℕ))

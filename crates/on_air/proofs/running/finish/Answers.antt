@@ -7,7 +7,6 @@ pub returns-in-Ok-clause-out : goal.returns-in-Ok-clause-out
 returns-in-Ok-clause-out g c = λ first purpose ss start before h.
     let ends = c.in-Ok.ensures.airs first _ _ h.told h.sent start before h.airs_so h.out in
     record {
-      now = c.finish_last.new.self;
       told = h.told;
       last = c.in-Ok.report;
       sent = ends.sent;

@@ -1,4 +1,4 @@
-use Rattle.std.proofs.Common.{ℕ, List, [], ◌∷◌, ◌++◌, sym, subst, ◌∙◌}
+use Rattle.std.proofs.Common.{ℕ, List, [], ◌∷◌, ◌++◌, reverse, sym, subst, ap, ◌∙◌}
 use Rattle.std.specs.Prelude.{IfOk}
 use Rattle.std.proofs.lemmas.Result.{IfOk-weaker}
 use Rattle.ts_packet.proofs.RunBlameLemmas.{given_none, given_more}
@@ -6,21 +6,26 @@ use Rattle.ts_packet.proofs.PacketsLemmas.{read_to_end}
 use Rattle.on_air.specs.Stretches.{as_read}
 use Rattle.on_air.specs.AirRuns.{AirStands, TellsOf, newest, all_next}
 use Rattle.on_air.specs.AirOutputs.{IsOnAir, EndsOnAir}
-use Rattle.on_air.proofs.LoopLemmas.{next-append}
+use Rattle.cued_laws.specs.Laws.{ArePacketsOfBytes}
+use Rattle.on_air.proofs.LoopLemmas.{next-append, bytes-next, on-ok-always}
 use Rattle.on_air.proofs.OutputLemmas.{still-on-air}
 use Rattle.on_air.proofs.running.go_on.Goals as goal
 
 pub loop-fault-init : goal.loop-fault-init
-loop-fault-init g c = ([], given_none _ _, λ purpose ss stands follows. (stands, follows, λ first start before air. air))
+loop-fault-init g c = ([], given_none _ _, tt, g.met.S.Stage.leads_refl _, g.met.P.PacketSource.leads_refl _, g.met.K.PacketSink.leads_refl _, λ purpose ss stands follows. (stands, follows, λ first start before air. air))
 
 pub loop-fault-preserved : goal.loop-fault-preserved
 loop-fault-preserved g c =
-    let (ps, n, run) = c.loop-fault.invariant in
+    let (ps, n, bytes, stage, reads, leads, run) = c.loop-fault.invariant in
     let q = c.read_next.new.next in
     let r = rw c.in-Ok-true.field-0-test at c.in-Ok-true.ensures.read in
     let e = rw c.in-Ok-true.field-0-test at c.in-Ok-true.ensures.given in (
       ps ++ q ∷ [],
       given_more _ _ _ _ _ _ ps q n r e.0,
+      bytes-next ps q bytes c.in-Ok-true.ensures.bytes,
+      g.met.S.Stage.leads_trans _ _ _ stage c.in-Ok.ensures.stage,
+      g.met.P.PacketSource.leads_trans _ _ _ reads c.in-Ok-true.ensures.reads,
+      g.met.K.PacketSink.leads_trans _ _ _ (g.met.K.PacketSink.leads_trans _ _ _ leads c.in-Ok-true.ensures.leads) c.in-Ok.ensures.leads,
       λ purpose ss stands follows.
           let (s, f, on) = run purpose ss stands follows in
           let next = sym (next-append purpose ps q ss) in
@@ -38,7 +43,7 @@ loop-fault-preserved g c =
 
 pub returns-clause-stretches : goal.returns-clause-stretches
 returns-clause-stretches g c = λ purpose ss bs stands follows given.
-    let (ps, n, run) = c.loop-fault.invariant in
+    let (ps, n, bytes, stage, reads, leads, run) = c.loop-fault.invariant in
     let r = rw c.in-Ok-false.field-0-test at c.in-Ok-false.ensures.read in
     let all = rw given at (read_to_end _ _ ps n.read r.0) in
     let now = (run purpose ss stands follows).0 in
@@ -47,7 +52,7 @@ returns-clause-stretches g c = λ purpose ss bs stands follows given.
 
 pub returns-clause-out : goal.returns-clause-out
 returns-clause-out g c = λ first purpose ss start before bs stands follows air given.
-    let (ps, n, run) = c.loop-fault.invariant in
+    let (ps, n, bytes, stage, reads, leads, run) = c.loop-fault.invariant in
     let r = rw c.in-Ok-false.field-0-test at c.in-Ok-false.ensures.read in
     let all = rw given at (read_to_end _ _ ps n.read r.0) in
     let on = (run purpose ss stands follows).2 first start before air in
@@ -55,5 +60,12 @@ returns-clause-out g c = λ first purpose ss start before bs stands follows air 
     (λ (qs : List (List ℕ)). g.K.PacketSink.holds c.loop-fault.out start (before ++ qs)) (λ (qs : List (List ℕ)). g.K.PacketSink.holds c.read_next.new.out start (before ++ qs))
     (λ qs h. c.in-Ok-false.ensures.held start (before ++ qs) h) on in
     IfOk-weaker c.finish.result _ _ (λ told w.
-    subst (λ l. EndsOnAir g.S.AirStage.summed (g.S.AirStage.airs_to_end first) purpose (all_next purpose l ss) told.report (λ (qs : List (List ℕ)). g.K.PacketSink.holds c.finish.new.out start (before ++ qs))) (sym all.0) w)
+    subst (λ l. EndsOnAir g.S.AirStage.summed (g.S.AirStage.airs_to_end first) purpose (all_next purpose l ss) told.report c.finish.new.stage (λ (qs : List (List ℕ)). g.K.PacketSink.holds c.finish.new.out start (before ++ qs))) (sym all.0) w)
     (c.finish.ensures.out first purpose (all_next purpose ps ss) start before here)
+
+pub returns-clause-bytes : goal.returns-clause-bytes
+returns-clause-bytes g c = λ bs given.
+    let (ps, n, bytes, stage, reads, leads, run) = c.loop-fault.invariant in
+    let r = rw c.in-Ok-false.field-0-test at c.in-Ok-false.ensures.read in
+    let all = rw given at (read_to_end _ _ ps n.read r.0) in
+    on-ok-always c.finish.result (subst (λ l. ArePacketsOfBytes (reverse l)) (sym all.0) bytes)

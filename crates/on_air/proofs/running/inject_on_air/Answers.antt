@@ -23,22 +23,22 @@ returns-clause-sound g c = λ d start before bs h is_held given sound.
     let is_out = (λ (qs : List (List ℕ)). g.K.PacketSink.holds c.run_air.new.out start (before ++ qs)) in
     let faultless = subst (λ w. IsSound (writing_cues w) bs) (sym config) sound in
     let ran = c.run_air.ensures.sound start before bs (λ kept. record { begins = here; run = begins }) is_held given faultless in
+    let named = c.run_air.ensures.stage.0 ∙ c.new-stage.ensures.same in
     IfOk-weaker c.run_air.result _ _ (λ told w.
-    let exchanged = (λ (x : g.row.U.Denot). Exchanged g.U.Automation.exchanges g.U.Automation.failures x w.0.automation.now) in
-    let all = injects_all w.0 is_out cfg (exchanged stage.automation.now) (λ ps sent report end. InjectEnds cfg (exchanged stage.automation.now) ps sent report) (λ ps sent report e. e) (Some bs) w.1.report (record {
+    let exchanged = (λ (x : g.row.U.Denot). Exchanged g.U.Automation.exchanges g.U.Automation.failures x c.run_air.new.stage.automation.now) in
+    let all = injects_all c.run_air.new.stage is_out cfg (exchanged stage.automation.now) (λ ps sent report end. InjectEnds cfg (exchanged stage.automation.now) ps sent report) (λ ps sent report e. e) (Some bs) w.report (record {
       sound = faultless;
-      sent = w.1.sent;
-      ends_so = w.1.ends_so;
-      out = w.1.out;
-    }) in (
-      w.0.automation.now,
-      record {
-        report = w.1.report;
-        ran_so = subst (λ x. Injected d bs is_out (exchanged x) w.1.report) c.new-stage.ensures.automation
-            (subst (λ x. Injected x bs is_out (exchanged stage.automation.now) w.1.report) config all);
-        tells = w.1.tells;
-      },
-    )) ran
+      sent = w.sent;
+      ends_so = w.ends_so;
+      out = w.out;
+    }) in
+    record {
+      report = w.report;
+      ran_so = subst (λ x. Injected d bs is_out (Exchanged g.U.Automation.exchanges g.U.Automation.failures c.args.automation.now x) w.report) (sym (c.automation-1.given.1 (sym named)))
+          (subst (λ x. Injected d bs is_out (exchanged x) w.report) c.new-stage.ensures.automation
+          (subst (λ x. Injected x bs is_out (exchanged stage.automation.now) w.report) config all));
+      tells = w.tells;
+    }) ran
 
 pub returns-clause-stretches : goal.returns-clause-stretches
 returns-clause-stretches g c = λ d start before bs h is_held given.
@@ -62,11 +62,11 @@ returns-clause-out g c = λ d start before bs h is_held given.
     let config = ap (λ w. w.service.config) c.new-stage.ensures.chain ∙ h.config in
     let same = ap (λ w. w.service.config) c.new-stage.ensures.chain ∙ sym (c.new-stage.ensures.config ∙ c.config-config.ensures) in
     let is_out = (λ (qs : List (List ℕ)). g.K.PacketSink.holds c.run_air.new.out start (before ++ qs)) in
+    let named = c.run_air.ensures.stage.0 ∙ c.new-stage.ensures.same in
     IfOk-weaker c.run_air.result _ _ (λ told w.
-    let exchanged = (λ (x : g.row.U.Denot). Exchanged g.U.Automation.exchanges g.U.Automation.failures x w.now.automation.now) in
-    let all = injected-on-air cfg (writing_cues stage.config.now) (ap writing_cues (sym same)) w.now.chain.now (exchanged stage.automation.now) bs is_out w.told w.sent w.last told.report w.tells_so w.summed_so w.out in (
-      w.now.automation.now,
-      subst (λ x. InjectedOnAir d bs is_out (exchanged x) told.report) c.new-stage.ensures.automation
-          (subst (λ x. InjectedOnAir x bs is_out (exchanged stage.automation.now) told.report) config all),
-    ))
+    let exchanged = (λ (x : g.row.U.Denot). Exchanged g.U.Automation.exchanges g.U.Automation.failures x c.run_air.new.stage.automation.now) in
+    let all = injected-on-air cfg (writing_cues stage.config.now) (ap writing_cues (sym same)) c.run_air.new.stage.chain.now (exchanged stage.automation.now) bs is_out w.told w.sent w.last told.report w.tells_so w.summed_so w.out in
+    subst (λ x. InjectedOnAir d bs is_out (Exchanged g.U.Automation.exchanges g.U.Automation.failures c.args.automation.now x) told.report) (sym (c.automation-1.given.1 (sym named)))
+    (subst (λ x. InjectedOnAir d bs is_out (exchanged x) told.report) c.new-stage.ensures.automation
+    (subst (λ x. InjectedOnAir x bs is_out (exchanged stage.automation.now) told.report) config all)))
     (c.run_air.ensures.out (writing_cues stage.config.now) start before bs (refl, same) tt (λ kept. record { begins = here; run = begins }) is_held given)

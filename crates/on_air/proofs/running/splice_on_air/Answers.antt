@@ -24,17 +24,17 @@ returns-clause-sound g c = λ start before bs is_held given sound.
     let faultless = subst (λ w. IsSound (reading_cues w) bs) (sym config) sound in
     let ran = c.run_air.ensures.sound start before bs (λ kept. (refl, record { stands = stands; sent = refl })) is_held given faultless in
     IfOk-weaker c.run_air.result _ _ (λ told w.
-    let all = splices_all w.0 is_out cfg filed (λ ps sent report end. SpliceEnds cfg filed ps sent report) (λ ps sent report e. e) (Some bs) w.1.report (record {
+    let all = splices_all c.run_air.new.stage is_out cfg filed (λ ps sent report end. SpliceEnds cfg filed ps sent report) (λ ps sent report e. e) (Some bs) w.report (record {
       sound = faultless;
-      sent = w.1.sent;
-      ends_so = w.1.ends_so;
-      out = w.1.out;
+      sent = w.sent;
+      ends_so = w.ends_so;
+      out = w.out;
     }) in
     record {
-      report = w.1.report;
-      ran_so = subst (λ (v : ℕ → Option Advertisement). Spliced c.args.config v bs is_out w.1.report) library
-          (subst (λ x. Spliced x filed bs is_out w.1.report) config all);
-      tells = w.1.tells;
+      report = w.report;
+      ran_so = subst (λ (v : ℕ → Option Advertisement). Spliced c.args.config v bs is_out w.report) library
+          (subst (λ x. Spliced x filed bs is_out w.report) config all);
+      tells = w.tells;
     }) ran
 
 pub returns-clause-stretches : goal.returns-clause-stretches

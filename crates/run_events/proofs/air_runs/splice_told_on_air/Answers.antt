@@ -1,4 +1,4 @@
-use Rattle.std.proofs.Common.{ℕ, List, [], ◌++◌, ◌∙◌, Option, Some, refl, sym, ap, subst}
+use Rattle.std.proofs.Common.{ℕ, List, [], ◌++◌, Option, Some, refl, sym, ap, subst}
 use Rattle.std.proofs.lemmas.Result.{IfOk-weaker}
 use Rattle.program_follower.specs.Purposes.{reading_cues}
 use Rattle.ad_library.specs.Advertisements.{Advertisement}
@@ -14,47 +14,47 @@ use Rattle.run_events.proofs.air_runs.splice_told_on_air.Goals as goal
 
 pub returns-clause-sound : goal.returns-clause-sound
 returns-clause-sound g c = λ start before bs is_held given sound.
-    let stage = c.new-told.result.inner.now in
+    let stage = c.new-stage.result in
     let cfg = stage.config in
     let filed = held stage.library.now in
-    let library = ap held (ap (λ s. s.library.now) c.new-told.ensures.inner ∙ c.new-stage.ensures.library) in
-    let config = (ap (λ s. s.config) c.new-told.ensures.inner ∙ c.new-stage.ensures.config) in
-    let stands = subst (λ w. SwitchStandsFor stage.switch w filed []) (sym config) (subst (λ s. SwitchStandsFor s.switch c.args.config filed []) (sym c.new-told.ensures.inner) (c.new-stage.ensures.switch filed)) in
-    let is_out = (λ (qs : List (List ℕ)). g.K.PacketSink.holds c.run_air.new.out start (before ++ qs)) in
+    let library = ap held c.new-stage.ensures.library in
+    let config = c.new-stage.ensures.config in
+    let stands = subst (λ w. SwitchStandsFor stage.switch w filed []) (sym config) (c.new-stage.ensures.switch filed) in
+    let is_out = (λ (qs : List (List ℕ)). g.K.PacketSink.holds c.run_air_told.new.out start (before ++ qs)) in
     let faultless = subst (λ w. IsSound (reading_cues w) bs) (sym config) sound in
-    let ran = c.run_air.ensures.sound start before bs (λ kept. (refl, record { stands = stands; sent = refl })) is_held given faultless in
-    IfOk-weaker c.run_air.result _ _ (λ told w.
-    let all = splices_all w.0 is_out cfg filed (λ ps sent report end. SpliceEnds cfg filed ps sent report) (λ ps sent report e. e) (Some bs) w.1.report (record {
+    let ran = c.run_air_told.ensures.sound start before bs (λ kept. (refl, record { stands = stands; sent = refl })) is_held given faultless in
+    IfOk-weaker c.run_air_told.result _ _ (λ told w.
+    let all = splices_all c.run_air_told.new.stage is_out cfg filed (λ ps sent report end. SpliceEnds cfg filed ps sent report) (λ ps sent report e. e) (Some bs) w.report (record {
       sound = faultless;
-      sent = w.1.sent;
-      ends_so = w.1.ends_so;
-      out = w.1.out;
+      sent = w.sent;
+      ends_so = w.ends_so;
+      out = w.out;
     }) in
     record {
-      report = w.1.report;
-      ran_so = subst (λ (v : ℕ → Option Advertisement). Spliced c.args.config v bs is_out w.1.report) library
-          (subst (λ x. Spliced x filed bs is_out w.1.report) config all);
-      tells = w.1.tells;
+      report = w.report;
+      ran_so = subst (λ (v : ℕ → Option Advertisement). Spliced c.args.config v bs is_out w.report) library
+          (subst (λ x. Spliced x filed bs is_out w.report) config all);
+      tells = w.tells;
     }) ran
 
 pub returns-clause-stretches : goal.returns-clause-stretches
 returns-clause-stretches g c = λ start before bs is_held given.
-    let stage = c.new-told.result.inner.now in
+    let stage = c.new-stage.result in
     let filed = held stage.library.now in
-    let config = (ap (λ s. s.config) c.new-told.ensures.inner ∙ c.new-stage.ensures.config) in
-    let stands = subst (λ w. SwitchStandsFor stage.switch w filed []) (sym config) (subst (λ s. SwitchStandsFor s.switch c.args.config filed []) (sym c.new-told.ensures.inner) (c.new-stage.ensures.switch filed)) in
-    IfOk-weaker c.run_air.result _ _ (λ told w. subst (λ x. TellsStretches told (reading_cues x) bs) config w)
-    (c.run_air.ensures.stretches (reading_cues stage.config) start before bs refl (λ kept. (refl, record { stands = stands; sent = refl })) is_held given)
+    let config = c.new-stage.ensures.config in
+    let stands = subst (λ w. SwitchStandsFor stage.switch w filed []) (sym config) (c.new-stage.ensures.switch filed) in
+    IfOk-weaker c.run_air_told.result _ _ (λ told w. subst (λ x. TellsStretches told (reading_cues x) bs) config w)
+    (c.run_air_told.ensures.stretches (reading_cues stage.config) start before bs refl (λ kept. (refl, record { stands = stands; sent = refl })) is_held given)
 
 pub returns-clause-out : goal.returns-clause-out
 returns-clause-out g c = λ start before bs is_held given.
-    let stage = c.new-told.result.inner.now in
+    let stage = c.new-stage.result in
     let filed = held stage.library.now in
-    let library = ap held (ap (λ s. s.library.now) c.new-told.ensures.inner ∙ c.new-stage.ensures.library) in
-    let config = (ap (λ s. s.config) c.new-told.ensures.inner ∙ c.new-stage.ensures.config) in
-    let stands = subst (λ w. SwitchStandsFor stage.switch w filed []) (sym config) (subst (λ s. SwitchStandsFor s.switch c.args.config filed []) (sym c.new-told.ensures.inner) (c.new-stage.ensures.switch filed)) in
-    let is_out = (λ (qs : List (List ℕ)). g.K.PacketSink.holds c.run_air.new.out start (before ++ qs)) in
-    IfOk-weaker c.run_air.result _ _ (λ told w.
+    let library = ap held c.new-stage.ensures.library in
+    let config = c.new-stage.ensures.config in
+    let stands = subst (λ w. SwitchStandsFor stage.switch w filed []) (sym config) (c.new-stage.ensures.switch filed) in
+    let is_out = (λ (qs : List (List ℕ)). g.K.PacketSink.holds c.run_air_told.new.out start (before ++ qs)) in
+    IfOk-weaker c.run_air_told.result _ _ (λ told w.
     let all : SplicedOnAir stage.config filed bs is_out told.report = record {
       last = w.last;
       told = w.told;
@@ -65,4 +65,4 @@ returns-clause-out g c = λ start before bs is_held given.
     } in
     subst (λ (v : ℕ → Option Advertisement). SplicedOnAir c.args.config v bs is_out told.report) library
     (subst (λ x. SplicedOnAir x filed bs is_out told.report) config all))
-    (c.run_air.ensures.out (reading_cues stage.config) start before bs refl tt (λ kept. (refl, record { stands = stands; sent = refl })) is_held given)
+    (c.run_air_told.ensures.out (reading_cues stage.config) start before bs refl tt (λ kept. (refl, record { stands = stands; sent = refl })) is_held given)

@@ -22,5 +22,5 @@ returns-clause-out g c = λ first purpose read ended last told qs start before t
       told = report ∷ told;
       ended_so = counted;
       airs_so = c.begin_anew-report.ensures.airs first ended last told qs behind airs;
-      out = subst (g.K.PacketSink.holds _ start) (append_assoc before qs behind) (c.in_ok-put.ensures (pmt_pid_of purpose.program read) (since_pat purpose.program read) start (before ++ qs) here is_held);
+      out = subst (g.K.PacketSink.holds _ start) (append_assoc before qs behind) (c.in_ok-put.ensures.puts (pmt_pid_of purpose.program read) (since_pat purpose.program read) start (before ++ qs) here is_held);
     }

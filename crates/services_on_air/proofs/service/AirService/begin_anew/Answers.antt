@@ -31,4 +31,4 @@ returns-clause-out g c = λ t gone start ps filed h is_held.
     let stood = standing-so old.service t gone c.open_count-lost.result h.airs c.open_count-lost.ensures in
     on_ok_weaker c.put-put.result
     (λ out. (anew-so old _ t gone c.report-report.result c.open_count-lost.result begins (kept-new c.new-self-3.result d c.new-self-3.ensures) c.plus-self.ensures counts c.saturating_add-self.ensures stood h, out))
-    (kept-out-of old.tail d (packets_in gone.own) c.put-put.result (λ l. g.K.PacketSink.holds c.put-put.new.out start (ps ++ l)) (λ known since stands. c.put-put.ensures known since start ps stands is_held) h.tail)
+    (kept-out-of old.tail d (packets_in gone.own) c.put-put.result (λ l. g.K.PacketSink.holds c.put-put.new.out start (ps ++ l)) (λ known since stands. c.put-put.ensures.puts known since start ps stands is_held) h.tail)

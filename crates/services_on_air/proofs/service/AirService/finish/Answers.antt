@@ -9,8 +9,8 @@ use Rattle.services_on_air.specs.Histories.{counts_by, counts_to_end}
 use Rattle.services_on_air.proofs.GoneLemmas.{report-so, summed-so}
 use Rattle.services_on_air.proofs.service.AirService.finish.Goals as goal
 
-pub returns-in-Ok : goal.returns-in-Ok
-returns-in-Ok g c = λ t gone start ps filed h is_held.
+pub returns-in-Ok-clause-puts : goal.returns-in-Ok-clause-puts
+returns-in-Ok-clause-puts g c = λ t gone start ps filed h is_held.
     let k = setting_of t.config t.filed in
     let x = journey_of k gone.fed in
     let old = c.args.self.now in

@@ -24,7 +24,7 @@ returns-in-Ok-clause-out g c = λ ts past before takes rs start filed h is_held.
     let steps = steps_of (length rs) takes past in
     let gs = gones_behind ts (airings (configs_of ts) past) steps in
     let air = services_air ts steps in
-    let (adds, out) = c.in-Ok.ensures ts gs start (before ++ air) filed (subst (λ l. AllGone l ts gs) (sym c.as_mut_slice-services.ensures.value) h.desk.all) is_held in
+    let (adds, out) = c.in-Ok.ensures.puts ts gs start (before ++ air) filed (subst (λ l. AllGone l ts gs) (sym c.as_mut_slice-services.ensures.value) h.desk.all) is_held in
     let (more, now, all) = adds in (
       record {
         messages = h.counts;
