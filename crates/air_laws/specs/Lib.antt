@@ -1,0 +1,4 @@
+pub mod Counters
+pub mod Airs
+pub mod Outputs
+pub mod Headline
