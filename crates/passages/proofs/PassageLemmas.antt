@@ -1,7 +1,7 @@
 -- What is flushed at the end of a run is what the run sent; and runs of the chain, where some pieces of messages are spoken of.
-use Rattle.std.specs.Prelude.{Result, Ok, Err, OnOk, IfOk, IfErr, IfSome, IsOkAnd, IsErrAnd}
+use Rattle.std.specs.Prelude.{Result, Ok, Err, ◌⊎◌, OnOk, IfOk, IfErr, IfSome, IsOkAnd, IsErrAnd}
 use Rattle.std.specs.declared.io.Error.{Error}
-use Rattle.std.proofs.Common.{◌≡◌, ◌≤◌, ℕ, List, [], ◌++◌, take, length, reverse, Option, None, Some, Bool, true, false, ◌≢◌, ap, sym, subst, arith, ◌∙◌, refl}
+use Rattle.std.proofs.Common.{◌≡◌, ◌≤◌, ℕ, List, [], ◌++◌, take, length, reverse, Option, None, Some, Bool, true, false, ◌≢◌, ap, sym, subst, arith, ◌∙◌, refl, inl, inr}
 use Rattle.std.proofs.lemmas.List.{append-nil}
 use Rattle.std.specs.Io.KnownBytes.{Keeps, append_known, prepend_known}
 use Rattle.psi_tables.specs.declared.config.Config.{Config}
@@ -30,9 +30,10 @@ use Rattle.passages.specs.Runs.{AsksByLines, PrintsReplies, PassesAll, Cuts, Cue
 use Rattle.ts_packet.specs.declared.sink.PutFault.TheVariants.{Failed}
 use Rattle.packet_runs.specs.Devices.{OfPackets, OfPut, OfSending}
 use Rattle.run_ends.specs.declared.attended.LastFlush.{LastFlush}
+use Rattle.run_ends.specs.declared.attended.LastFlush.TheVariants as flush
 use Rattle.run_ends.specs.declared.attended.LastFlush.TheVariants.{Done}
 use Rattle.passages.specs.Runs.{told_fault}
-use Rattle.passages.specs.Stops.{OfAsked}
+use Rattle.passages.specs.Stops.{OfAsked, SaysOfInput}
 use Rattle.passages.specs.declared.fault.ProgramFault.{ProgramFault}
 use Rattle.passages.specs.declared.running.Ran.{Ran}
 use Rattle.passages.specs.declared.tell.Side.{Side}
@@ -144,6 +145,30 @@ stopped stops so input start out out' form part broken last o (Err fault) h e k 
     so fault input _ _ _ _ _ _ (λ ps w. kept_bytes start out out' (form ps) w.1 (k done))
     (λ ps p x w. let (n, is_out) = w.2 in (n, kept_bytes start out out' (form ps ++ take n (part p)) is_out (k done)))
     (λ ps x w. kept_bytes start out out' (form ps) w.2 (k done)) was
+
+-- what it says of the network's bytes alone, unless what is left of it could not be flushed
+pub says_of_input : {R : Type 0} (stops : ProgramFault → Option (List ℕ) → OfPackets → OfPut → OfSending → Type 0)
+    → ((fault : ProgramFault) (input : Option (List ℕ)) (is_out is_out' : OfPackets) (fails fails' : OfPut) (unsent unsent' : OfSending)
+    → ((ps : List (List ℕ)) → is_out ps → is_out' ps) → ((ps : List (List ℕ)) (p : List ℕ) (f : PutFault) → fails ps p f → fails' ps p f)
+    → ((ps : List (List ℕ)) (f : PutFault) → unsent ps f → unsent' ps f)
+    → stops fault input is_out fails unsent → stops fault input is_out' fails' unsent')
+    → (input : Option (List ℕ)) (is_out : OfPackets) (fails : OfPut) (unsent : OfSending) (o r : Result R ProgramFault) (lost : ProgramFault)
+    → IfErr o (λ fault. stops fault input is_out fails unsent) → IfErr o (λ fault. r ≡ Err fault) → OnOk o (IfErr r (λ fault. fault ≡ lost))
+    → IfErr r (λ fault. (fault ≡ lost) ⊎ SaysOfInput (stops fault) input)
+says_of_input stops so input is_out fails unsent (Ok x) (Ok y) lost h first flushed = tt
+says_of_input stops so input is_out fails unsent (Ok x) (Err f) lost h first flushed = inl flushed
+says_of_input stops so input is_out fails unsent (Err fault) r lost h first flushed =
+    subst (λ q. IfErr q (λ f. (f ≡ lost) ⊎ SaysOfInput (stops f) input)) (sym first)
+    (inr (so fault input _ _ _ _ _ _ (λ ps w. tt) (λ ps p f w. tt) (λ ps f w. tt) h))
+
+-- one that went through was flushed
+pub is_done_ok : {R F : Type 0} (o r : Result R F) (last : LastFlush) (lost : F) → last ≢ flush.Due → IfErr o (λ fault. r ≡ Err fault)
+    → (last ≡ flush.Failed → OnOk o (r ≡ Err lost)) → OnOk r (last ≡ Done)
+is_done_ok o (Err f) last lost made first failed = tt
+is_done_ok o (Ok y) Done lost made first failed = refl
+is_done_ok o (Ok y) flush.Due lost made first failed = absurd (made refl)
+is_done_ok (Ok x) (Ok y) flush.Failed lost made first failed = let is = failed refl in absurd (cc)
+is_done_ok (Err f) (Ok y) flush.Failed lost made first failed = absurd (cc)
 
 -- ---- what the runs below say
 

@@ -1,3 +1,4 @@
+pub mod AirRuns
 pub mod Names
 pub mod Runs
 pub mod StopLaws

@@ -88,3 +88,7 @@ StopsAtDevice stops input start now =
 abbrev pub StopsInLines : (Option (List ℕ) → OfPackets → OfPut → OfSending → Type 0) → Option (List ℕ) → Option (List ℕ) → Option (List ℕ) → Type 0
 StopsInLines stops input start now =
     stops input (WrittenLines now start) (λ ps p fault. FailsToWriteLine now start ps p) (λ ps fault. WrittenLines now start ps)
+
+-- what a passage that stopped says of the network's bytes, whatever became of its packets
+abbrev pub SaysOfInput : (Option (List ℕ) → OfPackets → OfPut → OfSending → Type 0) → Option (List ℕ) → Type 0
+SaysOfInput stops input = stops input (λ ps. Unit {0}) (λ ps p fault. Unit {0}) (λ ps fault. Unit {0})

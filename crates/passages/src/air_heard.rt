@@ -1,7 +1,16 @@
 //! Runs on air of which is told, and whose automation is listened to besides.
 
-ghost use Rattle.std.specs.Prelude.{◌≡◌, false, IfErr};
+ghost use Rattle.std.specs.Prelude.{◌≡◌, ℕ, List, [], length, Option, false, IfOk, IfErr};
+ghost use Rattle.psi_tables.specs.declared.config.Config.{Config};
+ghost use Rattle.ad_library.specs.Library.{held};
+ghost use Rattle.chain_engine.specs.Chains.{ChainStandsFor};
+ghost use Rattle.chain_engine.specs.Runs.{Exchanged};
+ghost use Rattle.chain_services.specs.Runs.{terms_by};
 ghost use Rattle.on_air.specs.Plain.{IsOfDevices};
+ghost use Rattle.services_on_air.specs.Standing.{AirServicesStandFor};
+ghost use Rattle.services_on_air.specs.Serving.{AirServicesBegin};
+ghost use Rattle.passages.specs.Runs.{PassesAll};
+ghost use Rattle.passages.specs.AirRuns.{AirSplices, AirCues, AirPlays, AirServes};
 
 use ad_library::AdLibrary;
 use automations::Sessions;
@@ -40,7 +49,12 @@ where
     A: AirWatch,
     V: Watch + Copy + Drop,
     requires { P.is_broken network.old ≡ false }
+    ensures done { (c : Config) (start : Option (List ℕ)) → ChainStandsFor chain c → K.holds out.old start []
+        → IfOk result (PassesAll (AirCues c (Exchanged U.exchanges U.failures automation.old automation.new))
+        (P.left network.old) (K.holds out.new start)) }
     ensures devices { IfErr result IsOfDevices }
+    ensures reads { P.leads network.old network.new }
+    ensures leads { K.leads out.old out.new }
 {
     let told = hearing.watch;
     if told.is_detailed() {
@@ -78,7 +92,13 @@ where
     A: AirWatch,
     V: Watch + Copy + Drop,
     requires { P.is_broken network.old ≡ false }
+    ensures done { (c : Config) (start : Option (List ℕ)) → ChainStandsFor chain c → K.holds out.old start []
+        → IfOk result (PassesAll
+        (AirPlays c (held library.now) (Exchanged U.exchanges U.failures automation.old automation.new))
+        (P.left network.old) (K.holds out.new start)) }
     ensures devices { IfErr result IsOfDevices }
+    ensures reads { P.leads network.old network.new }
+    ensures leads { K.leads out.old out.new }
 {
     let told = hearing.watch;
     if told.is_detailed() {
@@ -116,7 +136,14 @@ where
     A: ServicesWatch,
     V: Watch + Copy + Drop,
     requires { P.is_broken network.old ≡ false }
+    ensures done { (cs : List Config) (start : Option (List ℕ)) → AirServicesStandFor services cs [] → AirServicesBegin services cs
+        → length libraries.now ≡ length cs → K.holds out.old start []
+        → IfOk result (PassesAll
+        (AirServes (terms_by cs libraries.now) (Exchanged U.exchanges U.failures automation.old automation.new))
+        (P.left network.old) (K.holds out.new start)) }
     ensures devices { IfErr result IsOfDevices }
+    ensures reads { P.leads network.old network.new }
+    ensures leads { K.leads out.old out.new }
 {
     let told = hearing.watch;
     if told.is_detailed() {
@@ -150,7 +177,11 @@ where
     A: AirWatch,
     V: Watch + Drop,
     requires { P.is_broken network.old ≡ false }
+    ensures done { (start : Option (List ℕ)) → K.holds out.old start []
+        → IfOk result (PassesAll (AirSplices config (held library.now)) (P.left network.old) (K.holds out.new start)) }
     ensures devices { IfErr result IsOfDevices }
+    ensures reads { P.leads network.old network.new }
+    ensures leads { K.leads out.old out.new }
 {
     if told.is_on() {
         return splice_told_on_air(config, network, library, out, watch, told);

@@ -1,7 +1,15 @@
 //! Runs on air whose automations are the clients of a port of this machine, one after another.
 
-ghost use Rattle.std.specs.Prelude.{◌≡◌, false, IfErr};
+ghost use Rattle.std.specs.Prelude.{◌≡◌, ℕ, List, [], length, Option, false, IfOk, IfErr};
+ghost use Rattle.psi_tables.specs.declared.config.Config.{Config};
+ghost use Rattle.ad_library.specs.Library.{held};
+ghost use Rattle.chain_engine.specs.Chains.{ChainStandsFor};
+ghost use Rattle.chain_services.specs.Runs.{terms_by};
 ghost use Rattle.on_air.specs.Plain.{IsOfDevices};
+ghost use Rattle.services_on_air.specs.Standing.{AirServicesStandFor};
+ghost use Rattle.services_on_air.specs.Serving.{AirServicesBegin};
+ghost use Rattle.passages.specs.Runs.{PassesAll, Untold};
+ghost use Rattle.passages.specs.AirRuns.{AirCues, AirPlays, AirServes};
 
 use crate::air_heard::{inject_heard_on_air, run_heard_on_air, services_heard_on_air};
 use ad_library::AdLibrary;
@@ -38,7 +46,12 @@ where
     A: AirWatch,
     V: Watch + Copy + Drop,
     requires { P.is_broken network.old ≡ false }
+    ensures done { (c : Config) (start : Option (List ℕ)) → ChainStandsFor chain c → K.holds out.old start []
+        → IfOk result (PassesAll (AirCues c Untold) (P.left network.old)
+        (K.holds out.new start)) }
     ensures devices { IfErr result IsOfDevices }
+    ensures reads { P.leads network.old network.new }
+    ensures leads { K.leads out.old out.new }
 {
     let mut clients = Clients::new(listener);
     inject_heard_on_air(chain, network, &mut clients, out, watch, hearing)
@@ -67,7 +80,12 @@ where
     A: AirWatch,
     V: Watch + Copy + Drop,
     requires { P.is_broken network.old ≡ false }
+    ensures done { (c : Config) (start : Option (List ℕ)) → ChainStandsFor chain c → K.holds out.old start []
+        → IfOk result (PassesAll (AirPlays c (held library.now) Untold) (P.left network.old)
+        (K.holds out.new start)) }
     ensures devices { IfErr result IsOfDevices }
+    ensures reads { P.leads network.old network.new }
+    ensures leads { K.leads out.old out.new }
 {
     let mut clients = Clients::new(listener);
     run_heard_on_air(chain, network, &mut clients, library, out, watch, hearing)
@@ -96,7 +114,13 @@ where
     A: ServicesWatch,
     V: Watch + Copy + Drop,
     requires { P.is_broken network.old ≡ false }
+    ensures done { (cs : List Config) (start : Option (List ℕ)) → AirServicesStandFor services cs [] → AirServicesBegin services cs
+        → length libraries.now ≡ length cs → K.holds out.old start []
+        → IfOk result (PassesAll (AirServes (terms_by cs libraries.now) Untold)
+        (P.left network.old) (K.holds out.new start)) }
     ensures devices { IfErr result IsOfDevices }
+    ensures reads { P.leads network.old network.new }
+    ensures leads { K.leads out.old out.new }
 {
     let mut clients = Clients::new(listener);
     services_heard_on_air(

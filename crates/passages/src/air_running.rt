@@ -1,19 +1,21 @@
 //! Runs on air between a reader and a writer: the network's bytes need not all be packets.
 
-ghost use Rattle.std.specs.Prelude.{◌≡◌, false};
+ghost use Rattle.std.specs.Prelude.{◌≡◌, Some, Ok, Err, OnOk, IfOk, IfErr};
+ghost use Rattle.ts_packet.specs.Sinks.{Written};
+ghost use Rattle.packet_recovery.specs.Reading.{Stays, left_to_give};
+ghost use Rattle.passages.specs.Runs.{PassesAll};
+ghost use Rattle.passages.specs.AirRuns.{IsOfDevicesOrMemory, CountsBytes};
 
 use crate::fault::ProgramFault;
 use crate::recovery_watch::{RecoveringPackets, RecoveryWatch, ToldPackets};
-use crate::running::{
-    BUFFER_SIZE, Ended, Finished, Passed, Ran, network_of, out_of_memory, take_back,
-};
+use crate::running::{BUFFER_SIZE, Ended, Passage, Ran, network_of, out_of_memory, run_to};
 use crate::tell::Stopped;
-use crate::watch::Watched;
+use chain_engine::RunFault;
 use packet_recovery::RecoveringReader;
-use run_ends::{Attended, finish_buffer};
-use std::alloc::{AllocError, Global};
-use std::io::{BufReader, BufWriter, Read, Write};
-use ts_packet::{Blocks, GatheringSink, PacketWriter, PausingPackets, Pid};
+use run_ends::Attended;
+use std::alloc::Global;
+use std::io::{BufReader, Read, Write};
+use ts_packet::Pid;
 
 /// What is told of a run on air that went through. Each count stops at the greatest u64.
 #[derive(Clone, Copy, Debug, Drop)]
@@ -26,85 +28,55 @@ pub struct OnAir<T> {
     pub skipped: u64,
 }
 
-/// What is done with a network on its way on air.
-pub trait AirPassage: Drop {
-    /// What is told of a run that went through.
-    type Report: Drop;
+/// A passage on air: whatever is wrong with the network, it goes on.
+pub trait AirPassage<A>: Passage<A> {
+    ghost use Rattle.std.specs.Prelude.{ℕ, List, Option};
+    ghost use Rattle.passages.specs.declared.fault.ProgramFault.{ProgramFault};
+    ghost use Rattle.passages.specs.Stops.{SaysOfInput};
+    ghost use Rattle.passages.specs.AirRuns.{IsOfDevicesOrMemory};
 
-    /// Passes the network on, whatever is wrong with it.
-    ///
-    /// # Errors
-    ///
-    /// The fault of a device, or of what the passage needs.
-    fn pass<P: PausingPackets, K: GatheringSink>(
-        self,
-        network: &mut P,
-        out: &mut K,
-    ) -> Result<Self::Report, ProgramFault>
-        requires { P.is_broken network.old ≡ false };
+    /// Devices and memory alone stop it.
+    ghost by_devices: { (passage : Self) (before now : A) (fault : ProgramFault) (input : Option (List ℕ))
+        → SaysOfInput (Self.Passage.stops passage before now fault) input → IsOfDevicesOrMemory fault };
 }
 
-/// Passes the network on, and where a PID is to be watched sees what goes by.
-fn pass_watched_on_air<S: AirPassage, P: PausingPackets, K: GatheringSink>(
-    passage: S,
-    watched: Option<Pid>,
-    network: &mut P,
-    out: &mut K,
-) -> Passed<S::Report>
-    requires { P.is_broken network.old ≡ false }
+/// What a run on air tells, with what its network counted in all.
+fn counted<T: Drop, P: RecoveringPackets + Drop, V: Drop>(
+    ended: Ended<T>,
+    packets: ToldPackets<P, V>,
+) -> Ended<OnAir<T>>
+    ensures report { IfOk result.outcome (λ told. ended.outcome ≡ Ok told.report) }
+    ensures mended { (start : P) → P.leads start packets.inner → IfOk result.outcome (λ told. Stays (P.mends start) (Some told.mended)) }
+    ensures skipped { (start : P) → P.leads start packets.inner
+        → IfOk result.outcome (λ told. Stays (P.skips start) (Some told.skipped)) }
+    ensures fault { IfErr ended.outcome (λ fault. result.outcome ≡ Err fault) }
+    ensures devices { OnOk ended.outcome (IfErr result.outcome IsOfDevicesOrMemory) }
 {
-    let Some(pid) = watched else {
-        let outcome = passage.pass(network, out);
-        return Passed {
-            outcome,
-            seen: None,
-        };
-    };
-    let mut watched_network = Watched::new(network, pid);
-    let mut watched_out = Watched::new(out, pid);
-    let outcome = passage.pass(&mut watched_network, &mut watched_out);
-    let seen = Some((watched_network.seen(), watched_out.seen()));
-    Passed { outcome, seen }
-}
-
-/// Runs to a writer, many packets a write, as [`run_to`](crate::running::run_to) does.
-fn run_on_air_to<S: AirPassage, P: PausingPackets, O: Write + Drop>(
-    alloc: Global,
-    passage: S,
-    watched: Option<Pid>,
-    network: &mut P,
-    output: O,
-) -> Result<Ended<S::Report>, AllocError>
-    requires { P.is_broken network.old ≡ false }
-{
-    let Ok(buffer) = BufWriter::with_capacity(alloc, BUFFER_SIZE, Attended::new(output)) else {
-        return Err(AllocError);
-    };
-    let mut target = Blocks::new(buffer);
-    let mut writer = PacketWriter::new(&mut target);
-    let Passed { outcome, seen } = pass_watched_on_air(passage, watched, network, &mut writer);
-    let (outcome, output) = finish_buffer(outcome, target.into_inner(), ProgramFault::Unflushed);
-    let (ended, _) = take_back(Finished {
+    let Ended {
         outcome,
-        output,
+        reason,
+        is_flushed,
         seen,
-    });
-    Ok(ended)
-}
-
-/// Runs to a writer, and tells of each read.
-fn run_told<S: AirPassage, P: RecoveringPackets, V: RecoveryWatch + Drop, O: Write + Drop>(
-    alloc: Global,
-    passage: S,
-    watched: Option<Pid>,
-    packets: &mut P,
-    watch: V,
-    output: O,
-) -> Result<Ended<S::Report>, AllocError>
-    requires { P.is_broken packets.old ≡ false }
-{
-    let mut told_packets = ToldPackets::new(packets, watch);
-    run_on_air_to(alloc, passage, watched, &mut told_packets, output)
+    } = ended;
+    let outcome = match outcome {
+        Ok(report) => {
+            match packets.counts() {
+                Ok((mended, skipped)) => Ok(OnAir {
+                    report,
+                    mended,
+                    skipped,
+                }),
+                Err(fault) => Err(ProgramFault::Run(RunFault::Read(fault))),
+            }
+        }
+        Err(fault) => Err(fault),
+    };
+    Ended {
+        outcome,
+        reason,
+        is_flushed,
+        seen,
+    }
 }
 
 /// Runs from a reader to a writer, as [`run_from`](crate::running::run_from) does, but over whatever packets the reader's bytes hold: where
@@ -114,30 +86,31 @@ fn run_told<S: AirPassage, P: RecoveringPackets, V: RecoveryWatch + Drop, O: Wri
 /// # Errors
 ///
 /// As for `run_from`; of the network only the faults of its device.
-pub fn run_on_air_from<S: AirPassage, V: RecoveryWatch + Drop, R: Read + Drop, O: Write + Drop>(
+pub fn run_on_air_from<A, S: AirPassage<A>, V: RecoveryWatch + Drop, R: Read + Drop, O: Write>(
     alloc: Global,
     passage: S,
+    asker: &mut A,
     watched: Option<Pid>,
     is_live: bool,
     input: R,
     watch: V,
-    output: O,
-) -> Result<Ran<OnAir<S::Report>>, Stopped> {
+    output: &mut O,
+) -> Result<Ran<OnAir<S::Report>>, Stopped>
+    requires { S.is_ready passage }
+    ensures done { IfOk result (λ ran. PassesAll (S.passes passage asker.old asker.new) (left_to_give (R.remaining input))
+        (Written (O.contents output.new) (O.contents output.old)) ran.report.report) }
+    ensures counts { IfOk result (λ ran. CountsBytes (R.remaining input) ran.report.mended ran.report.skipped) }
+    ensures devices { IfErr result (λ stopped. IsOfDevicesOrMemory stopped.fault) }
+{
     let Ok(reader) = BufReader::with_capacity(alloc, BUFFER_SIZE, Attended::new(input)) else {
         return Err(out_of_memory());
     };
     let mut network = network_of(reader, is_live);
-    let mut packets = RecoveringReader::new(&mut network);
-    let Ok(ended) = run_told(alloc, passage, watched, &mut packets, watch, output) else {
+    let mut packets = ToldPackets::new(RecoveringReader::new(&mut network), watch);
+    let Ok(ended) = run_to(alloc, passage, asker, watched, &mut packets, output) else {
         return Err(out_of_memory());
     };
-    let (mended, skipped) = (packets.mended(), packets.skipped());
+    let ended = counted(ended, packets);
     let reading = network.into_inner().into_inner().into_reason();
-    let Ran { report, seen } = ended.told(reading)?;
-    let report = OnAir {
-        report,
-        mended,
-        skipped,
-    };
-    Ok(Ran { report, seen })
+    ended.told(reading)
 }

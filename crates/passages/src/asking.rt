@@ -13,6 +13,9 @@ ghost use Rattle.chain_services.specs.Runs.{ServicesStandFor, terms_by};
 ghost use Rattle.on_air.specs.Plain.{IsOfDevices};
 ghost use Rattle.passages.specs.Runs.{PassesAll, AskerTells, CuesStop, Cues, PlaysStop, Plays, ServesStop};
 ghost use Rattle.passages.specs.Runs.{Serves, IfRan, IsPort, told_fault, lost_replies};
+ghost use Rattle.services_on_air.specs.Standing.{AirServicesStandFor};
+ghost use Rattle.services_on_air.specs.Serving.{AirServicesBegin};
+ghost use Rattle.passages.specs.AirRuns.{AirCues, AirPlays, AirServes};
 
 use crate::air_heard::{inject_heard_on_air, run_heard_on_air, services_heard_on_air};
 use crate::air_listening::{
@@ -186,7 +189,12 @@ where
     A: AirWatch,
     V: Watch + Copy + Drop,
     requires { P.is_broken network.old ≡ false }
+    ensures done { (c : Config) (start : Option (List ℕ)) → ChainStandsFor chain c → K.holds out.old start []
+        → IfOk result (PassesAll (AirCues c (AskerTells W.contents asker.old asker.new)) (P.left network.old)
+        (K.holds out.new start)) }
     ensures devices { IfErr result IsOfDevices }
+    ensures reads { P.leads network.old network.new }
+    ensures leads { K.leads out.old out.new }
 {
     match asker {
         Asker::Script(script) => {
@@ -221,7 +229,12 @@ where
     A: AirWatch,
     V: Watch + Copy + Drop,
     requires { P.is_broken network.old ≡ false }
+    ensures done { (c : Config) (start : Option (List ℕ)) → ChainStandsFor chain c → K.holds out.old start []
+        → IfOk result (PassesAll (AirPlays c (held library.now) (AskerTells W.contents asker.old asker.new)) (P.left network.old)
+        (K.holds out.new start)) }
     ensures devices { IfErr result IsOfDevices }
+    ensures reads { P.leads network.old network.new }
+    ensures leads { K.leads out.old out.new }
 {
     match asker {
         Asker::Script(script) => {
@@ -312,7 +325,13 @@ where
     A: ServicesWatch,
     V: Watch + Copy + Drop,
     requires { P.is_broken network.old ≡ false }
+    ensures done { (cs : List Config) (start : Option (List ℕ)) → AirServicesStandFor services cs [] → AirServicesBegin services cs
+        → length libraries.now ≡ length cs → K.holds out.old start []
+        → IfOk result (PassesAll (AirServes (terms_by cs libraries.now) (AskerTells W.contents asker.old asker.new))
+        (P.left network.old) (K.holds out.new start)) }
     ensures devices { IfErr result IsOfDevices }
+    ensures reads { P.leads network.old network.new }
+    ensures leads { K.leads out.old out.new }
 {
     match asker {
         Asker::Script(script) => {

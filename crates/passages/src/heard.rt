@@ -14,8 +14,8 @@ ghost use Rattle.chain_services.specs.Runs.{ServicesStandFor, ServicesRunAll, Se
 
 use ad_library::AdLibrary;
 use automations::Sessions;
-use chain_engine::{Automation, Chain, Report, RunFault};
-use chain_services::{ServiceReport, Services};
+use chain_engine::{Automation, Chain, Report, RunFault, run, run_inject, run_splice};
+use chain_services::{ServiceReport, Services, run_services};
 use psi_tables::Config;
 use run_events::{
     HeardAutomation, Hearing, Watch, inject_told, run_told, services_told, splice_told,
@@ -24,7 +24,7 @@ use splice_plans::SwitchReport;
 use std::alloc::Allocator;
 use ts_packet::{GatheringSink, PausingPackets, ReadFault};
 
-/// Runs [`inject_told`], and listens to the automation besides where each request is told.
+/// Runs [`inject_told`], and listens to the automation besides where each request is told. Where nothing is told, it is the run alone.
 ///
 /// # Errors
 ///
@@ -64,11 +64,17 @@ pub(crate) fn inject_heard<
     ensures leads { K.leads out.old out.new }
 {
     let watch = hearing.watch;
-    let mut heard = HeardAutomation::new(automation, hearing);
-    inject_told(chain, network, &mut heard, out, watch)
+    if watch.is_detailed() {
+        let mut heard = HeardAutomation::new(automation, hearing);
+        return inject_told(chain, network, &mut heard, out, watch);
+    }
+    if watch.is_on() {
+        return inject_told(chain, network, automation, out, watch);
+    }
+    run_inject(chain, network, automation, out)
 }
 
-/// Runs [`run_told`], and listens to the automation besides where each request is told.
+/// Runs [`run_told`], and listens to the automation besides where each request is told. Where nothing is told, it is the run alone.
 ///
 /// # Errors
 ///
@@ -109,11 +115,17 @@ pub(crate) fn run_heard<
     ensures leads { K.leads out.old out.new }
 {
     let watch = hearing.watch;
-    let mut heard = HeardAutomation::new(automation, hearing);
-    run_told(chain, network, &mut heard, library, out, watch)
+    if watch.is_detailed() {
+        let mut heard = HeardAutomation::new(automation, hearing);
+        return run_told(chain, network, &mut heard, library, out, watch);
+    }
+    if watch.is_on() {
+        return run_told(chain, network, automation, library, out, watch);
+    }
+    run(chain, network, automation, library, out)
 }
 
-/// Runs [`services_told`], and listens to the automation besides where each request is told.
+/// Runs [`services_told`], and listens to the automation besides where each request is told. Where nothing is told, it is the run alone.
 ///
 /// # Errors
 ///
@@ -155,11 +167,17 @@ pub(crate) fn services_heard<
     ensures leads { K.leads out.old out.new }
 {
     let watch = hearing.watch;
-    let mut heard = HeardAutomation::new(automation, hearing);
-    services_told(services, network, &mut heard, libraries, out, watch)
+    if watch.is_detailed() {
+        let mut heard = HeardAutomation::new(automation, hearing);
+        return services_told(services, network, &mut heard, libraries, out, watch);
+    }
+    if watch.is_on() {
+        return services_told(services, network, automation, libraries, out, watch);
+    }
+    run_services(services, network, automation, libraries, out)
 }
 
-/// Runs [`splice_told`], which has no automation.
+/// Runs [`splice_told`]. Where nothing is told, it is the run alone.
 ///
 /// # Errors
 ///
@@ -190,5 +208,8 @@ pub(crate) fn splice_heard<P: PausingPackets, K: GatheringSink, V: Watch + Drop>
     ensures reads { P.leads network.old network.new }
     ensures leads { K.leads out.old out.new }
 {
-    splice_told(config, network, library, out, watch)
+    if watch.is_on() {
+        return splice_told(config, network, library, out, watch);
+    }
+    run_splice(config, network, library, out)
 }

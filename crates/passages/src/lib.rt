@@ -4,6 +4,7 @@
 //! What a caller uses: of a run that ends well what stands below the buffers, of one that stopped its fault, and `fault_name`.
 #![tactic(auto)]
 
+pub mod air_chaining;
 mod air_heard;
 pub mod air_kinds;
 pub mod air_listening;

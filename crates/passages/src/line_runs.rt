@@ -1,6 +1,6 @@
 //! Runs to lines of digits.
 
-ghost use Rattle.std.specs.Prelude.{◌≡◌, [], None, true, false, IfOk, IfErr};
+ghost use Rattle.std.specs.Prelude.{◌≡◌, [], None, true, false, OnOk, IfOk, IfErr};
 ghost use Rattle.packet_lines.specs.Texts.{WrittenLines};
 ghost use Rattle.run_ends.specs.declared.attended.LastFlush.TheVariants.{Done};
 ghost use Rattle.passages.specs.Runs.{PassesAll};
@@ -34,6 +34,7 @@ fn run_to_digits<A, S: Passage<A>, P: PausingPackets, W: Write + Drop>(
     ensures stopped { IfErr result.outcome (λ fault. result.output.last_flush ≡ Done
         → StopsInLines (S.stops passage asker.old asker.new fault) (P.left network.old) (W.contents output)
         (W.contents result.output.inner)) }
+    ensures flushed { OnOk result.outcome (result.output.last_flush ≡ Done) }
     ensures unwatched { watched ≡ None → result.seen ≡ None }
 {
     let mut target = Gathered::new(buffer, Attended::new(output));
@@ -68,6 +69,7 @@ fn run_to_lent<'a, A, S: Passage<A>, P: PausingPackets, W: Write, K: Place>(
     ensures stopped { IfErr ended.new.outcome (λ fault. ended.new.is_flushed ≡ true
         → StopsInLines (S.stops passage asker.old asker.new fault) (P.left network.old) (W.contents output.entry.at.now)
         (W.contents result.at.now)) }
+    ensures flushed { OnOk ended.new.outcome (ended.new.is_flushed ≡ true) }
     ensures unwatched { watched ≡ None → ended.new.seen ≡ None }
 {
     let lent: Lent<'a, W, K> = Lent::new(output);
@@ -98,6 +100,7 @@ pub fn run_to_lines<A, S: Passage<A>, P: PausingPackets, W: Write>(
     ensures stopped { IfOk result (λ e. IfErr e.outcome (λ fault. e.is_flushed ≡ true
         → StopsInLines (S.stops passage asker.old asker.new fault) (P.left network.old) (W.contents output.old)
         (W.contents output.new))) }
+    ensures flushed { IfOk result (λ e. OnOk e.outcome (e.is_flushed ≡ true)) }
     ensures unwatched { IfOk result (λ e. watched ≡ None → e.seen ≡ None) }
 {
     let Ok(buffer) = Vec::with_capacity(alloc, BUFFER_SIZE) else {

@@ -42,17 +42,40 @@ impl RecoveryWatch for Unwatched {
 
 /// A source of packets among bytes that need not all be packets.
 pub trait RecoveringPackets: PausingPackets {
+    ghost use Rattle.std.specs.Prelude.{◌≡◌, ℕ, Option, Some, false};
+    ghost use Rattle.packet_recovery.specs.Reading.{Stays};
+
+    /// How many packets will have been marked in error at the end, where that is known.
+    ghost mends: { Self → Option ℕ };
+
+    /// How many bytes will have been left out at the end, where that is known.
+    ghost skips: { Self → Option ℕ };
+
     /// How many bytes stood before the packet that was given last.
     fn place(&self) -> u64;
 
     /// How many packets were marked in error so far.
-    fn mended(&self) -> u64;
+    fn mended(&self) -> u64
+        ensures { Self.PacketSource.is_spent self.now → Stays (mends self.now) (Some result) };
 
     /// How many bytes were left out so far.
-    fn skipped(&self) -> u64;
+    fn skipped(&self) -> u64
+        ensures { Self.PacketSource.is_spent self.now → Stays (skips self.now) (Some result) };
+
+    /// Both come to the same behind some reads, unless one has failed.
+    ghost counts_stay: { (s t : Self) → Self.PacketSource.leads s t → Self.PacketSource.is_broken t ≡ false
+        → Stays (mends s) (mends t) × Stays (skips s) (skips t) };
 }
 
 impl<S: PausingSource> RecoveringPackets for RecoveringReader<'_, S> {
+    ghost use Rattle.packet_recovery.specs.Reading.{rest_of, mended_by, skipped_by};
+
+    ghost mends = { λ r. mended_by r.mended (rest_of r.has_ended r.is_ahead (S.remaining r.source.now)) };
+
+    ghost skips = { λ r. skipped_by r.skipped (rest_of r.has_ended r.is_ahead (S.remaining r.source.now)) };
+
+    ghost counts_stay = { λ s t h e. let stay = h.1 e in (stay.2, stay.1) };
+
     fn place(&self) -> u64 {
         RecoveringReader::place(self)
     }
@@ -66,21 +89,20 @@ impl<S: PausingSource> RecoveringPackets for RecoveringReader<'_, S> {
     }
 }
 
-/// A source that tells of each read.
+/// A source of its own that tells of each read.
 #[derive(Drop)]
-pub struct ToldPackets<'a, P, V> {
-    inner: &'a mut P,
+pub struct ToldPackets<P, V> {
+    inner: P,
     watch: V,
     packets: u64,
 }
 
-impl<'a, P, V> ToldPackets<'a, P, V> {
+impl<P, V> ToldPackets<P, V> {
     ghost use Rattle.std.specs.Prelude.{◌≡◌};
 
     /// Tells this watch of the reads.
-    pub fn new(inner: &'a mut P, watch: V) -> ToldPackets<'a, P, V>
-        ensures same { result.inner.ghost_name ≡ inner.entry.ghost_name }
-        ensures inner { result.inner.now ≡ inner.old }
+    pub fn new(inner: P, watch: V) -> ToldPackets<P, V>
+        ensures { result.inner ≡ inner }
     {
         ToldPackets {
             inner,
@@ -90,7 +112,63 @@ impl<'a, P, V> ToldPackets<'a, P, V> {
     }
 }
 
-impl<P: RecoveringPackets, V: RecoveryWatch> ToldPackets<'_, P, V> {
+impl<P: RecoveringPackets + Drop, V: Drop> ToldPackets<P, V> {
+    ghost use Rattle.std.specs.Prelude.{◌≡◌, ◌+◌, ◌^◌, ◌<◌, Ok, Some, cond, true, false, IfOk, OnOk};
+    ghost use Rattle.packet_recovery.specs.Reading.{Stays};
+
+    /// Reads one packet more, and tells of none; false at the end.
+    ///
+    /// # Errors
+    ///
+    /// The fault of the source.
+    fn pass_over(&mut self, packet: &mut Packet) -> Result<bool, ReadFault>
+        ensures given { IfOk result (λ more. P.given self.new.inner ≡ P.given self.old.inner + cond more 1 0) }
+        ensures counted { OnOk result (P.given self.new.inner < 2 ^ 64) }
+        ensures whole { OnOk result (P.is_broken self.new.inner ≡ false) }
+        ensures end { result ≡ Ok false → P.is_spent self.new.inner }
+        ensures leads { P.leads self.old.inner self.new.inner }
+    {
+        self.inner.read_packet(packet)
+    }
+
+    /// Reads what a run has left, which is nothing where it went through.
+    ///
+    /// # Errors
+    ///
+    /// The fault of the source.
+    fn pass_over_rest(&mut self) -> Result<(), ReadFault>
+        ensures whole { OnOk result (P.is_broken self.new.inner ≡ false) }
+        ensures end { OnOk result (P.is_spent self.new.inner) }
+        ensures leads { P.leads self.old.inner self.new.inner }
+    {
+        let mut packet = Packet::null();
+        loop {
+            match self.pass_over(&mut packet) {
+                Ok(true) => {}
+                Ok(false) => return Ok(()),
+                Err(fault) => return Err(fault),
+            }
+        }
+    }
+
+    /// How many packets were marked in error in all, and how many bytes were left out. What a run has left is read first.
+    ///
+    /// # Errors
+    ///
+    /// The fault of the source.
+    pub fn counts(self) -> Result<(u64, u64), ReadFault>
+        ensures mended { (start : P) → P.leads start self.inner → IfOk result (λ counts. Stays (P.mends start) (Some counts.0)) }
+        ensures skipped { (start : P) → P.leads start self.inner → IfOk result (λ counts. Stays (P.skips start) (Some counts.1)) }
+    {
+        let mut packets = self;
+        match packets.pass_over_rest() {
+            Ok(()) => Ok((packets.inner.mended(), packets.inner.skipped())),
+            Err(fault) => Err(fault),
+        }
+    }
+}
+
+impl<P: RecoveringPackets, V: RecoveryWatch> ToldPackets<P, V> {
     ghost use Rattle.std.specs.Prelude.{◌≡◌};
 
     /// Tells of what was read.
@@ -107,31 +185,28 @@ impl<P: RecoveringPackets, V: RecoveryWatch> ToldPackets<'_, P, V> {
     }
 }
 
-impl<P: RecoveringPackets, V: RecoveryWatch> PacketSource for ToldPackets<'_, P, V> {
-    ghost use Rattle.std.specs.Prelude.{◌≡◌};
-    ghost use Rattle.std.proofs.Common.{refl, ◌∙◌};
+impl<P: RecoveringPackets, V: RecoveryWatch> PacketSource for ToldPackets<P, V> {
+    ghost left = { λ w. P.left w.inner };
 
-    ghost left = { λ w. P.left w.inner.now };
+    ghost counts = { λ w. P.counts w.inner };
 
-    ghost counts = { λ w. P.counts w.inner.now };
+    ghost given = { λ w. P.given w.inner };
 
-    ghost given = { λ w. P.given w.inner.now };
+    ghost is_broken = { λ w. P.is_broken w.inner };
 
-    ghost is_broken = { λ w. P.is_broken w.inner.now };
+    ghost has_ended = { λ w. P.has_ended w.inner };
 
-    ghost has_ended = { λ w. P.has_ended w.inner.now };
+    ghost leads = { λ v w. P.leads v.inner w.inner };
 
-    ghost leads = { λ v w. (w.inner.ghost_name ≡ v.inner.ghost_name) × P.leads v.inner.now w.inner.now };
+    ghost falls_short = { λ v w. P.falls_short v.inner w.inner };
 
-    ghost falls_short = { λ v w. P.falls_short v.inner.now w.inner.now };
+    ghost most_calls = { λ v w. P.most_calls v.inner w.inner };
 
-    ghost most_calls = { λ v w. P.most_calls v.inner.now w.inner.now };
+    ghost is_spent = { λ w. P.is_spent w.inner };
 
-    ghost is_spent = { λ w. P.is_spent w.inner.now };
+    ghost leads_refl = { λ s. P.leads_refl s.inner };
 
-    ghost leads_refl = { λ s. (refl, P.leads_refl s.inner.now) };
-
-    ghost leads_trans = { λ s t u h k. (k.0 ∙ h.0, P.leads_trans s.inner.now t.inner.now u.inner.now h.1 k.1) };
+    ghost leads_trans = { λ s t u. P.leads_trans s.inner t.inner u.inner };
 
     #[inline(always)]
     fn read_packet(&mut self, packet: &mut Packet) -> Result<bool, ReadFault> {
@@ -148,8 +223,8 @@ impl<P: RecoveringPackets, V: RecoveryWatch> PacketSource for ToldPackets<'_, P,
     }
 }
 
-impl<P: RecoveringPackets, V: RecoveryWatch> PausingPackets for ToldPackets<'_, P, V> {
-    ghost next_may_wait = { λ w. P.next_may_wait w.inner.now };
+impl<P: RecoveringPackets, V: RecoveryWatch> PausingPackets for ToldPackets<P, V> {
+    ghost next_may_wait = { λ w. P.next_may_wait w.inner };
 
     #[inline(always)]
     fn next_may_wait(&self) -> bool {

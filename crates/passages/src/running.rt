@@ -1,13 +1,13 @@
 //! Runs between a reader and a writer, whatever is done on the way: the output is flushed at the end, and what is known of a run that
 //! stopped is kept.
 
-ghost use Rattle.std.specs.Prelude.{◌≡◌, ℕ, List, [], Option, None, true, false, not, IfOk, IfErr, OnOk, Err, IsErrAnd};
+ghost use Rattle.std.specs.Prelude.{◌≡◌, ℕ, ◌⊎◌, List, [], Option, None, true, false, not, IfOk, IfErr, OnOk, Err, IsErrAnd};
 ghost use Rattle.ts_packet.specs.Sinks.{Written};
 ghost use Rattle.ts_packet.specs.Transfers.{no_tally};
 ghost use Rattle.passages.specs.Runs.{PassesAll};
 ghost use Rattle.run_ends.specs.Flushes.{is_done};
 ghost use Rattle.run_ends.specs.declared.attended.LastFlush.TheVariants.{Done};
-ghost use Rattle.passages.specs.Stops.{StopsAtDevice};
+ghost use Rattle.passages.specs.Stops.{StopsAtDevice, SaysOfInput};
 ghost use Rattle.passages.specs.Stopping.{side_of, IsStoppedWith, IsStoppedUnopened};
 
 use crate::fault::ProgramFault;
@@ -142,6 +142,10 @@ fn run_to_blocks<A, S: Passage<A>, P: PausingPackets, O: Write + Drop>(
     ensures stopped { IfErr result.outcome (λ fault. result.output.last_flush ≡ Done
         → StopsAtDevice (S.stops passage asker.old asker.new fault) (P.left network.old) (O.contents output)
         (O.contents result.output.inner)) }
+    ensures says { IfErr result.outcome (λ fault. (fault ≡ ProgramFault.Unflushed)
+        ⊎ SaysOfInput (S.stops passage asker.old asker.new fault) (P.left network.old)) }
+    ensures flushed { OnOk result.outcome (result.output.last_flush ≡ Done) }
+    ensures reads { P.leads network.old network.new }
     ensures unwatched { watched ≡ None → result.seen ≡ None }
 {
     let mut target = Gathered::new(buffer, Attended::new(output));
@@ -212,6 +216,10 @@ fn run_to_lent<'a, A, S: Passage<A>, P: PausingPackets, O: Write, K: Place>(
     ensures stopped { IfErr ended.new.outcome (λ fault. ended.new.is_flushed ≡ true
         → StopsAtDevice (S.stops passage asker.old asker.new fault) (P.left network.old) (O.contents output.entry.at.now)
         (O.contents result.at.now)) }
+    ensures says { IfErr ended.new.outcome (λ fault. (fault ≡ ProgramFault.Unflushed)
+        ⊎ SaysOfInput (S.stops passage asker.old asker.new fault) (P.left network.old)) }
+    ensures flushed { OnOk ended.new.outcome (ended.new.is_flushed ≡ true) }
+    ensures reads { P.leads network.old network.new }
     ensures unwatched { watched ≡ None → ended.new.seen ≡ None }
 {
     let lent: Lent<'a, O, K> = Lent::new(output);
@@ -243,6 +251,10 @@ pub fn run_to<A, S: Passage<A>, P: PausingPackets, O: Write>(
     ensures stopped { IfOk result (λ e. IfErr e.outcome (λ fault. e.is_flushed ≡ true
         → StopsAtDevice (S.stops passage asker.old asker.new fault) (P.left network.old) (O.contents output.old)
         (O.contents output.new))) }
+    ensures says { IfOk result (λ e. IfErr e.outcome (λ fault. (fault ≡ ProgramFault.Unflushed)
+        ⊎ SaysOfInput (S.stops passage asker.old asker.new fault) (P.left network.old))) }
+    ensures flushed { IfOk result (λ e. OnOk e.outcome (e.is_flushed ≡ true)) }
+    ensures reads { P.leads network.old network.new }
     ensures unwatched { IfOk result (λ e. watched ≡ None → e.seen ≡ None) }
 {
     let Ok(buffer) = Vec::with_capacity(alloc, BUFFER_SIZE) else {

@@ -2,7 +2,7 @@ use Rattle.std.proofs.Common.{◌≡◌, rules, refl, ap, [], ◌++◌, ◌∙�
 use Rattle.std.specs.Prelude.{IfSome}
 use Rattle.std.specs.Io.KnownBytes.{append_known}
 use Rattle.packet_lines.specs.Lines.{line_of, lines_of}
-use Rattle.passages.proofs.PassageLemmas.{buffered_none, finished, stopped}
+use Rattle.passages.proofs.PassageLemmas.{buffered_none, finished, stopped, is_done_ok}
 use Rattle.passages.proofs.line_runs.run_to_digits.Goals as goal
 
 pub returns : goal.returns
@@ -26,5 +26,6 @@ returns g c =
           c.finish_behind-outcome.ensures.first c.finish_behind-outcome.ensures.done kept;
       stopped = stopped _ (g.S.Passage.stops_so c.args.passage c.args.asker.now c.pass_watched-outcome.new.asker) _ start sent _ lines_of line_of c.pass_watched-outcome.new.out.is_broken _ c.pass_watched-outcome.result.outcome _ halted
           c.finish_behind-outcome.ensures.well emptied;
+      flushed = is_done_ok _ _ _ _ c.finish_behind-outcome.ensures.made c.finish_behind-outcome.ensures.first c.finish_behind-outcome.ensures.failed;
       unwatched = c.pass_watched-outcome.ensures.unwatched;
     }

@@ -2,7 +2,8 @@ use Rattle.std.proofs.Common.{◌≡◌, rules, refl, ap, [], ◌++◌, ◌∙�
 use Rattle.std.specs.Prelude.{IfSome}
 use Rattle.std.specs.Io.KnownBytes.{append_known}
 use Rattle.ts_packet.specs.Packets.{bytes_of}
-use Rattle.passages.proofs.PassageLemmas.{buffered_none, finished, stopped}
+use Rattle.passages.specs.declared.fault.ProgramFault.TheVariants as program
+use Rattle.passages.proofs.PassageLemmas.{buffered_none, finished, stopped, says_of_input, is_done_ok}
 use Rattle.passages.proofs.running.run_to_blocks.Goals as goal
 
 pub returns : goal.returns
@@ -26,5 +27,9 @@ returns g c =
           c.finish_behind-outcome.ensures.first c.finish_behind-outcome.ensures.done kept;
       stopped = stopped _ (g.S.Passage.stops_so c.args.passage c.args.asker.now c.pass_watched-outcome.new.asker) _ start sent _ bytes_of (λ p. p) c.pass_watched-outcome.new.out.is_broken _ c.pass_watched-outcome.result.outcome _ halted
           c.finish_behind-outcome.ensures.well emptied;
+      says = says_of_input _ (g.S.Passage.stops_so c.args.passage c.args.asker.now c.pass_watched-outcome.new.asker) _ _ _ _
+          c.pass_watched-outcome.result.outcome _ program.Unflushed halted c.finish_behind-outcome.ensures.first c.finish_behind-outcome.ensures.flushed;
+      flushed = is_done_ok _ _ _ _ c.finish_behind-outcome.ensures.made c.finish_behind-outcome.ensures.first c.finish_behind-outcome.ensures.failed;
+      reads = c.pass_watched-outcome.ensures.reads;
       unwatched = c.pass_watched-outcome.ensures.unwatched;
     }

@@ -1,5 +1,5 @@
-use Rattle.std.proofs.Common.{rules, ◌≡◌, ℕ, Bool, true, false, List, None, arith}
-use Rattle.pes_time.specs.Stamps.{stamp_of, is_split, is_untimed}
+use Rattle.std.proofs.Common.{rules, ◌≡◌, ℕ, true, List, None, arith}
+use Rattle.pes_time.specs.Stamps.{stamp_of, is_split}
 use Rattle.passages.proofs.watch.Watch.see_unit.Goals as goal
 use Rattle.passages.proofs.watch.Watch.see_unit.Goals.{in_default-via-in-Err-1, in_default-via-in-Ok+in-None-1}
 
