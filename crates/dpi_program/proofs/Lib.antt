@@ -1,1 +1,3 @@
+pub mod CuttingLemmas
+pub mod PlanningLemmas
 pub mod StatusLemmas

@@ -17,9 +17,11 @@ use Rattle.command_lines.specs.declared.inject_options.InjectOptions.{InjectOpti
 use Rattle.command_lines.specs.declared.services_options.ServicesOptions.{ServicesOptions}
 use Rattle.command_lines.specs.declared.splice_options.SpliceOptions.{SpliceOptions}
 use Rattle.passages.specs.Runs.{PassesAll, Splices}
+use Rattle.passages.specs.AirRuns.{AirSplices}
 use Rattle.passages.specs.Stops.{SplicingStops, StopsAtDevice}
 use Rattle.passages.specs.declared.fault.ProgramFault.{ProgramFault}
 use Rattle.dpi_program.specs.Runs.{known_from, InjectsAndPrints, ServesAndPrints}
+use Rattle.dpi_program.specs.Runs.{PassesOnAir, InjectsOnAirAndPrints, ServesOnAirAndPrints}
 use Rattle.dpi_program.specs.Ends.{IsMade}
 use Rattle.dpi_program.specs.Inputs.{AreSpliceInputs, AreInjectInputs, AreServiceInputs}
 use Rattle.dpi_program.specs.declared.splicing.SpliceInputs.{SpliceInputs}
@@ -103,6 +105,49 @@ ServesToFile {F = F} {W = W} L reads makes remaining contents printed options st
     ((log : Option Metadata) × IsMade makes options.output (opened.network.about ∷ opened.script ∷ opened.listed ∷ log ∷ []) file)
     × ServesAndPrints (terms_by opened.list.configs.items opened.list.libraries.items) known (Written (contents later) (contents file)) printed
     opened.asker report)
+
+-- ---- on air: whatever is wrong with the network
+
+-- `splice` went through between the ends that the options name, likewise
+abbrev pub SplicesOnAirBetween : {F : Type 0} → (List ℕ → F → Metadata → Type 0) → (F → Option (List ℕ)) → SpliceOptions → Option (List ℕ)
+    → (List (List ℕ) → Type 0) → SwitchReport → Option AirCounts → Type 0
+SplicesOnAirBetween reads remaining options standard is_out report air = OfSpliceInputs reads remaining options standard
+    (λ opened known. PassesOnAir (AirSplices options.config (held opened.library)) known is_out report air)
+
+abbrev pub SplicesOnAirToFile : {F : Type 0} → (List ℕ → F → Metadata → Type 0) → (List ℕ → List (Option Metadata) → F → Type 0)
+    → (F → Option (List ℕ)) → (F → Option (List ℕ)) → SpliceOptions → Option (List ℕ) → SwitchReport → Option AirCounts → Type 0
+SplicesOnAirToFile {F = F} reads makes remaining contents options standard report air = (file later : F)
+    × OfSpliceInputs reads remaining options standard
+    (λ opened known. ((log : Option Metadata) × IsMade makes options.output (opened.network.about ∷ opened.list ∷ log ∷ []) file)
+    × PassesOnAir (AirSplices options.config (held opened.library)) known (Written (contents later) (contents file)) report air)
+
+-- `inject` and `run` did, with the messages of that script or port
+abbrev pub InjectsOnAirBetween : {F W : Type 0} → Type 0 → (List ℕ → F → Metadata → Type 0) → (F → Option (List ℕ)) → (W → Option (List ℕ)) → InjectOptions
+    → Option (List ℕ) → (List (List ℕ) → Type 0) → Report → Option AirCounts → Type 0
+InjectsOnAirBetween {W = W} L reads remaining printed options standard is_out report air = OfInjectInputs {W = W} L reads remaining options standard
+    (λ opened known. InjectsOnAirAndPrints options.config opened.library known is_out printed opened.asker report air)
+
+abbrev pub InjectsOnAirToFile : {F W : Type 0} → Type 0 → (List ℕ → F → Metadata → Type 0) → (List ℕ → List (Option Metadata) → F → Type 0)
+    → (F → Option (List ℕ)) → (F → Option (List ℕ)) → (W → Option (List ℕ)) → InjectOptions → Option (List ℕ) → Report → Option AirCounts → Type 0
+InjectsOnAirToFile {F = F} {W = W} L reads makes remaining contents printed options standard report air = (file later : F)
+    × OfInjectInputs {W = W} L reads remaining options standard (λ opened known.
+    ((log : Option Metadata) × IsMade makes options.output (opened.network.about ∷ opened.script ∷ opened.list ∷ log ∷ []) file)
+    × InjectsOnAirAndPrints options.config opened.library known (Written (contents later) (contents file)) printed opened.asker report air)
+
+-- `services` did, with the services and the advertisements of that list
+abbrev pub ServesOnAirBetween : {F W : Type 0} → Type 0 → (List ℕ → F → Metadata → Type 0) → (F → Option (List ℕ)) → (W → Option (List ℕ)) → ServicesOptions
+    → Option (List ℕ) → (List (List ℕ) → Type 0) → ServiceReport → Option AirCounts → Type 0
+ServesOnAirBetween {W = W} L reads remaining printed options standard is_out report air = OfServiceInputs {W = W} L reads remaining options standard
+    (λ opened known. ServesOnAirAndPrints (terms_by opened.list.configs.items opened.list.libraries.items) known is_out printed opened.asker
+    report air)
+
+abbrev pub ServesOnAirToFile : {F W : Type 0} → Type 0 → (List ℕ → F → Metadata → Type 0) → (List ℕ → List (Option Metadata) → F → Type 0)
+    → (F → Option (List ℕ)) → (F → Option (List ℕ)) → (W → Option (List ℕ)) → ServicesOptions → Option (List ℕ) → ServiceReport → Option AirCounts → Type 0
+ServesOnAirToFile {F = F} {W = W} L reads makes remaining contents printed options standard report air = (file later : F)
+    × OfServiceInputs {W = W} L reads remaining options standard (λ opened known.
+    ((log : Option Metadata) × IsMade makes options.output (opened.network.about ∷ opened.script ∷ opened.listed ∷ log ∷ []) file)
+    × ServesOnAirAndPrints (terms_by opened.list.configs.items opened.list.libraries.items) known
+    (Written (contents later) (contents file)) printed opened.asker report air)
 
 -- ---- what was printed
 

@@ -1,5 +1,5 @@
 -- What a run between opened ends has done, by the bytes of its ends.
-use Rattle.std.specs.Prelude.{◌≡◌, ℕ, List, Option, None, Some, IfSome}
+use Rattle.std.specs.Prelude.{◌≡◌, ℕ, List, [], Option, None, Some, IfSome, IsSomeAnd}
 use Rattle.psi_tables.specs.declared.config.Config.{Config}
 use Rattle.scte104_codec.specs.declared.reply.Reply.{Reply}
 use Rattle.ad_library.specs.Library.{held}
@@ -9,9 +9,17 @@ use Rattle.chain_engine.specs.declared.hearing.SessionEnd.{SessionEnd}
 use Rattle.chain_engine.specs.declared.report.Report.{Report}
 use Rattle.chain_laws.specs.Exactly.{RanExactly}
 use Rattle.chain_laws.specs.Headline.{Headline}
+use Rattle.air_laws.specs.Headline.{HeadlineOnAir}
 use Rattle.service_laws.specs.Services.{ServiceTerms}
 use Rattle.chain_services.specs.declared.report.ServiceReport.{ServiceReport}
+use Rattle.packet_recovery.specs.Reading.{left_to_give}
+use Rattle.on_air.specs.declared.report.AirReport.{AirReport}
+use Rattle.services_on_air.specs.Standing.{AirServicesStandFor}
+use Rattle.services_on_air.specs.Serving.{AirServicesBegin}
+use Rattle.services_on_air.specs.declared.services.AirServices.{AirServices}
+use Rattle.report_texts.specs.declared.lines.AirCounts.{AirCounts}
 use Rattle.passages.specs.Runs.{PassesAll, Cues, Serves, AskerTells, lost_replies}
+use Rattle.passages.specs.AirRuns.{AirCues, AirPlays, AirServes, CountsBytes}
 use Rattle.passages.specs.declared.asking.Asker.{Asker}
 
 -- the bytes of the file that was opened, else those of standard input
@@ -40,3 +48,39 @@ abbrev pub ServesAndPrints : {W L : Type 0} → List ServiceTerms → Option (Li
     → (W → Option (List ℕ)) → Asker W L → ServiceReport → Type 0
 ServesAndPrints {W = W} {L = L} terms input is_out contents asker report = (later : Asker W L) × (lost_replies later ≡ 0)
     × PassesAll (Serves terms (AskerTells contents asker later)) input is_out report
+
+-- ---- on air
+
+-- what a run on air told that reported this, by the counts behind that report
+abbrev pub told_with : {R : Type 0} → R → AirCounts → AirReport R
+told_with report counts = record { report = report; stretches = counts.stretches; lost = counts.lost; unjudged = counts.unjudged }
+
+-- A RUN ON AIR WENT THROUGH: where the bytes of the network are known, what it sends for the packets that are found among them is out, and the
+-- report is theirs, with the counts behind it, which count the bytes that are in none of these packets too
+abbrev pub PassesOnAir : {R : Type 0} → (List ℕ → List (List ℕ) → AirReport R → Type 0) → Option (List ℕ) → (List (List ℕ) → Type 0) → R
+    → Option AirCounts → Type 0
+PassesOnAir passes input is_out report air = IsSomeAnd air (λ counts. PassesAll passes (left_to_give input) is_out (told_with report counts)
+    × CountsBytes input counts.mended counts.skipped)
+
+-- of `inject` without a library, and of `run` with one: the headline of each stretch of the network's packets, where the bytes are known
+abbrev pub InjectsOnAir : {A : Type 0} → Config → Option (AdLibrary A) → Option (List ℕ) → (List (List ℕ) → Type 0)
+    → (Option SessionEnd → List Take → List Reply → Type 0) → Report → Option AirCounts → Type 0
+InjectsOnAir c None input is_out tells report air = PassesOnAir (AirCues c tells) input is_out report air
+InjectsOnAir c (Some library) input is_out tells report air = PassesOnAir (AirPlays c (held library) tells) input is_out report air
+    × IfSome (left_to_give input) (λ bs. HeadlineOnAir c (held library) bs is_out tells report)
+
+-- likewise, from the automation on that was opened, and no reply was lost
+abbrev pub InjectsOnAirAndPrints : {A W L : Type 0} → Config → Option (AdLibrary A) → Option (List ℕ) → (List (List ℕ) → Type 0)
+    → (W → Option (List ℕ)) → Asker W L → Report → Option AirCounts → Type 0
+InjectsOnAirAndPrints {W = W} {L = L} c library input is_out contents asker report air = (later : Asker W L) × (lost_replies later ≡ 0)
+    × InjectsOnAir c library input is_out (AskerTells contents asker later) report air
+
+-- and so of `services`
+abbrev pub ServesOnAirAndPrints : {W L : Type 0} → List ServiceTerms → Option (List ℕ) → (List (List ℕ) → Type 0)
+    → (W → Option (List ℕ)) → Asker W L → ServiceReport → Option AirCounts → Type 0
+ServesOnAirAndPrints {W = W} {L = L} terms input is_out contents asker report air = (later : Asker W L) × (lost_replies later ≡ 0)
+    × PassesOnAir (AirServes terms (AskerTells contents asker later)) input is_out report air
+
+-- the services that are run on air, where they are, are those of these configurations, and were given nothing
+abbrev pub AreOfConfigs : {M : Type 0} → Option (AirServices M) → List Config → Type 0
+AreOfConfigs on_air cs = IfSome on_air (λ services. AirServicesStandFor services cs [] × AirServicesBegin services cs)

@@ -1,6 +1,7 @@
 //! The ends of a run: the network that it reads, where its packets go, and where the lines of its log go.
 
-ghost use Rattle.std.specs.Prelude.{◌≡◌, None, false, is_some, map, option_copied, IfOk, IfErr};
+ghost use Rattle.std.specs.Prelude.{◌≡◌, None, true, false, is_some, map, option_copied, IfOk, IfErr, IsSomeAnd};
+ghost use Rattle.std.specs.Fs.{file_type, IsFile};
 ghost use Rattle.run_ends.specs.Ends.{path_of};
 ghost use Rattle.dpi_program.specs.Ends.{IsOpened, IsMade, IsLogMade};
 
@@ -65,7 +66,10 @@ pub(crate) struct Network<F> {
 
 impl<F> Network<F> {
     /// Whether it may pause, as it is no ordinary file.
-    pub(crate) fn is_live(&self) -> bool {
+    pub(crate) fn is_live(&self) -> bool
+        ensures standard { self.now.about ≡ None → result ≡ true }
+        ensures steady { result ≡ false → IsSomeAnd self.now.about (λ about. IsFile (file_type about)) }
+    {
         !self.about.as_ref().is_some_and(|about| about.is_file())
     }
 }

@@ -1,13 +1,13 @@
 //! The subcommands `inject` and `run`: a run with cues, or with cues and advertisements, between the ends that its options name.
 
-ghost use Rattle.std.specs.Prelude.{◌≡◌, None, IfSome, IsSome, is_some, false, IfOk, IfErr, OnOk};
+ghost use Rattle.std.specs.Prelude.{◌≡◌, None, IfSome, IsSome, is_some, true, false, IfOk, IfErr, OnOk};
 ghost use Rattle.ts_packet.specs.Sinks.{Written};
 ghost use Rattle.run_ends.specs.Ends.{path_of};
 ghost use Rattle.automations.specs.ScriptReading.{IsLoaded};
 ghost use Rattle.passages.specs.Runs.{AskerTells, lost_replies};
-ghost use Rattle.dpi_program.specs.Runs.{known_from, Injects, InjectsAndPrints};
+ghost use Rattle.dpi_program.specs.Runs.{known_from, Injects, InjectsAndPrints, InjectsOnAir, InjectsOnAirAndPrints};
 ghost use Rattle.dpi_program.specs.Inputs.{IsAskerAt, AsksElsewhere, IsLibraryIfAsked, AreInjectInputs};
-ghost use Rattle.dpi_program.specs.Commands.{InjectsBetween, InjectsToFile};
+ghost use Rattle.dpi_program.specs.Commands.{InjectsBetween, InjectsToFile, InjectsOnAirBetween, InjectsOnAirToFile};
 
 use crate::counting::air_counts;
 use crate::ends::{LogEnd, Network, RunFiles, make_output, open_log, open_network};
@@ -21,7 +21,8 @@ use command_lines::inject_options::{Asking, InjectOptions};
 use event_logs::{Listening, Telling, Warnings};
 use injector::MessageCounts;
 use on_air::{AirWatch, Unwatched};
-use passages::air_kinds::{ChainingOnAir, CueingOnAir};
+use passages::air_chaining::run_chain_on_air_from;
+use passages::air_kinds::CueingOnAir;
 use passages::air_log::AirLog;
 use passages::air_running::run_on_air_from;
 use passages::air_telling::{AirTeller, TellingInTurn};
@@ -143,42 +144,38 @@ fn run_asked_on_air<R, O, W, L, A, H, V>(
     watch: &mut A,
     hearing: &mut Hearing<H>,
     reading: V,
-    output: O,
+    output: &mut O,
 ) -> Result<Injected, Stopped>
 where
     R: Read + Drop,
-    O: Write + Drop,
+    O: Write,
     W: Write + Drop,
     L: OpenListener + Drop,
     L::Stream: OpenStream + Read + Write + Drop,
     A: AirWatch,
     H: run_events::Watch + Copy + Drop,
     V: RecoveryWatch + Drop,
+    ensures done { IfOk result (λ injected. InjectsOnAir options.now.config library (R.remaining input)
+        (Written (O.contents output.new) (O.contents output.old)) (AskerTells W.contents asker.old asker.new) injected.report injected.air) }
     ensures printed { OnOk result (lost_replies asker.new ≡ 0) }
     ensures plays { IfOk result (λ injected. injected.plays ≡ is_some options.now.adverts) }
 {
     let watched = options.is_verbose.then_some(options.config.cue_pid);
     let ran = match &library {
-        Some(library) => {
-            let passage = ChainingOnAir {
-                alloc,
-                options: &*options,
-                asker: &mut *asker,
-                library,
-                watch,
-                hearing,
-            };
-            run_on_air_from(alloc, passage, watched, is_live, input, reading, output)
-        }
+        Some(library) => run_chain_on_air_from(
+            alloc, options, asker, library, watch, hearing, watched, is_live, input, reading,
+            output,
+        ),
         None => {
             let passage = CueingOnAir {
                 alloc,
                 options: &*options,
-                asker: &mut *asker,
                 watch,
                 hearing,
             };
-            run_on_air_from(alloc, passage, watched, is_live, input, reading, output)
+            run_on_air_from(
+                alloc, passage, asker, watched, is_live, input, reading, output,
+            )
         }
     };
     let Ran { report, seen } = with_replies(ran, asker.has_lost_a_reply())?;
@@ -211,6 +208,8 @@ where
         (Written (O.contents output.new) (O.contents output.old)) (AskerTells W.contents asker.old asker.new) injected.report) }
     ensures printed { OnOk result (lost_replies asker.new ≡ 0) }
     ensures plays { IfOk result (λ injected. injected.plays ≡ is_some options.now.adverts) }
+    ensures on_air { options.now.is_on_air ≡ true → IfOk result (λ injected. InjectsOnAir options.now.config library (R.remaining input)
+        (Written (O.contents output.new) (O.contents output.old)) (AskerTells W.contents asker.old asker.new) injected.report injected.air) }
     ensures plain { options.now.is_on_air ≡ false → IfOk result (λ injected. injected.air ≡ None) }
 {
     if !options.is_on_air {
@@ -389,6 +388,9 @@ where
         (AskerTells W.contents asker.old asker.new) injected.report) }
     ensures printed { OnOk result (lost_replies asker.new ≡ 0) }
     ensures plays { IfOk result (λ injected. injected.plays ≡ is_some options.now.adverts) }
+    ensures on_air { options.now.is_on_air ≡ true → IfOk result (λ injected. InjectsOnAir options.now.config library
+        (known_from F.remaining network.file (I.remaining input.old)) (Written (O.contents output.new) (O.contents output.old))
+        (AskerTells W.contents asker.old asker.new) injected.report injected.air) }
     ensures plain { options.now.is_on_air ≡ false → IfOk result (λ injected. injected.air ≡ None) }
 {
     let is_live = network.is_live();
@@ -426,6 +428,9 @@ where
         (known_from F.remaining opened.network.file (I.remaining input.old)) (Written (O.contents output.new) (O.contents output.old))
         W.contents opened.asker injected.report) }
     ensures plays { IfOk result (λ injected. injected.plays ≡ is_some options.now.adverts) }
+    ensures on_air { options.now.is_on_air ≡ true → IfOk result (λ injected. InjectsOnAirAndPrints options.now.config opened.library
+        (known_from F.remaining opened.network.file (I.remaining input.old)) (Written (O.contents output.new) (O.contents output.old))
+        W.contents opened.asker injected.report injected.air) }
     ensures plain { options.now.is_on_air ≡ false → IfOk result (λ injected. injected.air ≡ None) }
 {
     let InjectInputs {
@@ -479,6 +484,8 @@ where
     ensures done { options.now.is_on_air ≡ false → IfOk result (λ injected. InjectsToFile R.Listener R.reads_at R.makes_at
         R.File.Read.remaining R.File.Write.contents W.contents options.now (I.remaining input.old) injected.report) }
     ensures plays { IfOk result (λ injected. injected.plays ≡ is_some options.now.adverts) }
+    ensures on_air { options.now.is_on_air ≡ true → IfOk result (λ injected. InjectsOnAirToFile R.Listener R.reads_at R.makes_at
+        R.File.Read.remaining R.File.Write.contents W.contents options.now (I.remaining input.old) injected.report injected.air) }
     ensures plain { options.now.is_on_air ≡ false → IfOk result (λ injected. injected.air ≡ None) }
 {
     let opened = open_inputs(rt, options, input, replies)?;
@@ -512,6 +519,9 @@ where
         R.File.Read.remaining T.contents options.now (I.remaining input.old) (Written (O.contents output.new) (O.contents output.old))
         injected.report) }
     ensures plays { IfOk result (λ injected. injected.plays ≡ is_some options.now.adverts) }
+    ensures on_air { options.now.is_on_air ≡ true → IfOk result (λ injected. InjectsOnAirBetween R.Listener R.reads_at
+        R.File.Read.remaining T.contents options.now (I.remaining input.old) (Written (O.contents output.new) (O.contents output.old))
+        injected.report injected.air) }
     ensures plain { options.now.is_on_air ≡ false → IfOk result (λ injected. injected.air ≡ None) }
 {
     let opened = open_inputs(rt, options, input, faults)?;
@@ -553,6 +563,12 @@ where
     ensures to_file { options.now.is_on_air ≡ false → IsSome (path_of options.now.output) → IfOk result (λ injected. InjectsToFile
         R.Listener R.reads_at R.makes_at R.File.Read.remaining R.File.Write.contents ⟦<Sharing<'static, &'static mut O> as Write>⟧.contents
         options.now (I.remaining input.old) injected.report) }
+    ensures airs_to_standard { options.now.is_on_air ≡ true → path_of options.now.output ≡ None → IfOk result (λ injected.
+        InjectsOnAirBetween R.Listener R.reads_at R.File.Read.remaining ⟦<Sharing<'static, &'static mut E> as Write>⟧.contents options.now
+        (I.remaining input.old) (Written (O.contents output.new) (O.contents output.old)) injected.report injected.air) }
+    ensures airs_to_file { options.now.is_on_air ≡ true → IsSome (path_of options.now.output) → IfOk result (λ injected. InjectsOnAirToFile
+        R.Listener R.reads_at R.makes_at R.File.Read.remaining R.File.Write.contents ⟦<Sharing<'static, &'static mut O> as Write>⟧.contents
+        options.now (I.remaining input.old) injected.report injected.air) }
     ensures plays { IfOk result (λ injected. injected.plays ≡ is_some options.now.adverts) }
     ensures plain { options.now.is_on_air ≡ false → IfOk result (λ injected. injected.air ≡ None) }
 {

@@ -1,24 +1,28 @@
 //! The subcommand `plan`: breaks planned for a network, and the script by which `run` makes them.
 
-ghost use Rattle.std.specs.Prelude.{◌≤◌};
+ghost use Rattle.std.specs.Prelude.{◌≡◌, ◌≤◌, ℕ, [], false, IfOk, IfErr, OnOk, IfSome, IsSome};
+ghost use Rattle.break_timelines.specs.Standing.{ReaderStandsFor};
+ghost use Rattle.run_ends.specs.Ends.{path_of};
+ghost use Rattle.dpi_program.specs.Planning.{AreBreaksOf, AreBreaksAt, HasFed, IsTimelineBy, IsTimelineAt};
+ghost use Rattle.dpi_program.specs.Planning.{IsScriptWritten, PlansFor, PlansBetween};
 
+use crate::ends::{RunFiles, make_output};
 use crate::splicing::open_library;
 use ad_library::AdLibrary;
 use break_lists::{BreaksFault, NumberedLine, RefusedLine, read_breaks};
 use break_plans::{Plan, Setting, Told, plan};
-use break_scripts::script_of;
+use break_scripts::{PlacedRequest, script_of};
 use break_timelines::{Timeline, TimelineFault, TimelineReader};
 use chain_engine::RunFault;
 use command_lines::plan_options::PlanOptions;
 use command_lines::refusals::{DONE, report};
 use passages::fault::{ProgramFault, fault_name};
 use psi_tables::{FeedFault, NetworkFault};
-use run_ends::{End, create_beside, open_input};
+use run_ends::End;
 use std::alloc::Global;
 use std::fmt;
 use std::fs::Metadata;
 use std::io::{BufReader, Read, Write};
-use std::rt::Files;
 use ts_packet::{Device, DeviceFault, Packet, PacketReader, Pid, Source};
 
 /// The most reads of a list.
@@ -74,7 +78,9 @@ enum PlanFault {
 const NO_MEMORY: PlanFault = PlanFault::Program(ProgramFault::OutOfMemory);
 
 /// The bytes that a reader gives, to their end.
-fn read_all<S: Source>(alloc: Global, source: &mut S) -> Result<Vec<u8>, PlanFault> {
+fn read_all<S: Source>(alloc: Global, source: &mut S) -> Result<Vec<u8>, PlanFault>
+    ensures { IfOk result (λ bytes. IfSome (S.remaining source.old) (λ bs. bs ≡ bytes.items)) }
+{
     let mut bytes = Vec::new(alloc);
     let mut room = [0; ROOM];
     for _turn in 0..READS {
@@ -93,7 +99,9 @@ fn read_all<S: Source>(alloc: Global, source: &mut S) -> Result<Vec<u8>, PlanFau
 }
 
 /// The list of breaks that a reader gives.
-fn breaks_from<R: Read + Drop>(alloc: Global, reader: R) -> Result<Vec<NumberedLine>, PlanFault> {
+fn breaks_from<R: Read + Drop>(alloc: Global, reader: R) -> Result<Vec<NumberedLine>, PlanFault>
+    ensures { IfOk result (λ lines. AreBreaksOf lines.items (R.remaining reader)) }
+{
     let mut source = Device::new(reader);
     let text = read_all(alloc, &mut source)?;
     match read_breaks(alloc, text.as_slice()) {
@@ -104,37 +112,38 @@ fn breaks_from<R: Read + Drop>(alloc: Global, reader: R) -> Result<Vec<NumberedL
 }
 
 /// The list of breaks that the options name.
-fn open_breaks<R: Files + AllocGlobal, I: Read>(
+fn open_breaks<R: RunFiles + AllocGlobal, I: Read>(
     rt: &R,
     breaks: End<'_>,
     input: &mut I,
-) -> Result<(Vec<NumberedLine>, Option<Metadata>), PlanFault> {
+) -> Result<(Vec<NumberedLine>, Option<Metadata>), PlanFault>
+    ensures read { IfOk result (λ opened. AreBreaksAt R.reads_at R.File.Read.remaining breaks.entry (I.remaining input.old) opened.0.items
+        opened.1) }
+    ensures unread { IsSome (path_of breaks.entry) → input.new ≡ input.old }
+{
     let Some(path) = breaks.path() else {
         return Ok((breaks_from(rt.alloc(), input)?, None));
     };
-    match open_input(rt, path) {
+    match rt.open_at(path) {
         Ok((file, about)) => Ok((breaks_from(rt.alloc(), file)?, Some(about))),
         Err(_) => Err(PlanFault::Program(ProgramFault::File)),
     }
 }
 
-/// The pictures of the network that a reader gives.
-fn timeline_from<R: Read + Drop>(
-    alloc: Global,
-    reader: R,
-    program: u16,
-) -> Result<Timeline, PlanFault> {
-    let Ok(reader) = BufReader::with_capacity(alloc, BUFFER, reader) else {
-        return Err(NO_MEMORY);
-    };
-    let mut device = Device::new(reader);
-    let mut packets = PacketReader::new(&mut device);
-    let mut timeline = TimelineReader::new(alloc, program);
+/// Feeds a timeline all packets that a reader gives.
+fn feed_all<S: Source>(
+    packets: &mut PacketReader<'_, S>,
+    timeline: &mut TimelineReader,
+) -> Result<(), PlanFault>
+    requires { packets.old.is_broken ≡ false }
+    ensures { (program : ℕ) → ReaderStandsFor timeline.old program [] → OnOk result (HasFed timeline.new program
+        (S.remaining packets.old.source.now)) }
+{
     let mut packet = Packet::null();
     for number in 0..u64::MAX {
         match packets.read_into(&mut packet) {
             Ok(true) => {}
-            Ok(false) => break,
+            Ok(false) => return Ok(()),
             Err(fault) => return Err(PlanFault::Program(ProgramFault::Run(RunFault::Read(fault)))),
         }
         match timeline.feed(&packet) {
@@ -150,6 +159,24 @@ fn timeline_from<R: Read + Drop>(
             Err(TimelineFault::OutOfMemory) => return Err(NO_MEMORY),
         }
     }
+    Ok(())
+}
+
+/// The pictures of the network that a reader gives.
+fn timeline_from<R: Read + Drop>(
+    alloc: Global,
+    reader: R,
+    program: u16,
+) -> Result<Timeline, PlanFault>
+    ensures { IfOk result (λ timeline. IsTimelineBy timeline program (R.remaining reader)) }
+{
+    let Ok(reader) = BufReader::with_capacity(alloc, BUFFER, reader) else {
+        return Err(NO_MEMORY);
+    };
+    let mut device = Device::new(reader);
+    let mut packets = PacketReader::new(&mut device);
+    let mut timeline = TimelineReader::new(alloc, program);
+    feed_all(&mut packets, &mut timeline)?;
     match timeline.finish() {
         Ok(timeline) => Ok(timeline),
         Err(_) => Err(NO_MEMORY),
@@ -157,15 +184,18 @@ fn timeline_from<R: Read + Drop>(
 }
 
 /// The pictures of the network that the options name.
-fn open_timeline<R: Files + AllocGlobal, I: Read>(
+fn open_timeline<R: RunFiles + AllocGlobal, I: Read>(
     rt: &R,
     options: &PlanOptions<'_>,
     input: &mut I,
-) -> Result<(Timeline, Option<Metadata>), PlanFault> {
+) -> Result<(Timeline, Option<Metadata>), PlanFault>
+    ensures { IfOk result (λ opened. IsTimelineAt R.reads_at R.File.Read.remaining options.now.network (I.remaining input.old) opened.0
+        options.now.program opened.1) }
+{
     let Some(path) = options.network.path() else {
         return Ok((timeline_from(rt.alloc(), input, options.program)?, None));
     };
-    match open_input(rt, path) {
+    match rt.open_at(path) {
         Ok((file, about)) => Ok((
             timeline_from(rt.alloc(), file, options.program)?,
             Some(about),
@@ -182,30 +212,36 @@ struct Inputs {
     breaks: Option<Metadata>,
 }
 
-/// Writes the script of a plan to the file of this path, and tells each of its lines.
-fn write_plan<R: Files + AllocGlobal, O: Write>(
+/// Writes the script of these requests to the file that the options name.
+fn write_script<R: RunFiles + AllocGlobal>(
     rt: &R,
     options: &PlanOptions<'_>,
-    planned: &Plan,
-    first: u64,
+    requests: &[PlacedRequest],
     inputs: &Inputs,
-    output: &mut O,
-) -> Result<(), PlanFault> {
-    let Ok(script) = script_of(rt.alloc(), planned.requests.as_slice(), options.index) else {
+) -> Result<(), PlanFault>
+    ensures { OnOk result (IsScriptWritten R.makes_at R.File.Write.contents options.now inputs.now requests.now) }
+{
+    let Ok(script) = script_of(rt.alloc(), requests, options.index) else {
         return Err(NO_MEMORY);
     };
-    let path = options.script.path().unwrap_or("");
-    let others = [
-        inputs.network.as_ref(),
-        inputs.breaks.as_ref(),
-        inputs.adverts.as_ref(),
-    ];
-    let Ok(mut file) = create_beside(rt, path, &others) else {
+    let (network, breaks) = (inputs.network.as_ref(), inputs.breaks.as_ref());
+    let adverts = inputs.adverts.as_ref();
+    let Ok(mut file) = make_output(rt, options.script, &[network, breaks, adverts]) else {
         return Err(PlanFault::Program(ProgramFault::File));
     };
-    if file.write_all(script.as_slice()).is_err() || file.flush().is_err() {
+    if file.write_all(script.as_slice()).is_err() {
         return Err(PlanFault::Io);
     }
+    match file.flush() {
+        Ok(()) => Ok(()),
+        Err(_) => Err(PlanFault::Io),
+    }
+}
+
+/// Tells each line of a plan, whose times count from this one.
+fn tell_lines<O: Write>(planned: &Plan, first: u64, output: &mut O) -> Result<(), PlanFault>
+    ensures { IfErr result (λ fault. fault ≡ PlanFault.Program ProgramFault.Print) }
+{
     for (place, line) in planned.lines.iter().enumerate() {
         let verdict = planned.verdict(place);
         let told = Told {
@@ -223,8 +259,23 @@ fn write_plan<R: Files + AllocGlobal, O: Write>(
     }
 }
 
+/// Writes the script of a plan, and then tells each of its lines.
+fn write_plan<R: RunFiles + AllocGlobal, O: Write>(
+    rt: &R,
+    options: &PlanOptions<'_>,
+    planned: &Plan,
+    first: u64,
+    inputs: &Inputs,
+    output: &mut O,
+) -> Result<(), PlanFault>
+    ensures { OnOk result (IsScriptWritten R.makes_at R.File.Write.contents options.now inputs.now planned.now.requests.items) }
+{
+    write_script(rt, options, planned.requests.as_slice(), inputs)?;
+    tell_lines(planned, first, output)
+}
+
 /// Plans the breaks of a list for a network whose pictures are known.
-fn plan_for<R: Files + AllocGlobal, O: Write>(
+fn plan_for<R: RunFiles + AllocGlobal, O: Write>(
     rt: &R,
     options: &PlanOptions<'_>,
     timeline: &Timeline,
@@ -232,7 +283,9 @@ fn plan_for<R: Files + AllocGlobal, O: Write>(
     list: &[NumberedLine],
     inputs: &Inputs,
     output: &mut O,
-) -> Result<(), PlanFault> {
+) -> Result<(), PlanFault>
+    ensures { OnOk result (PlansFor R.makes_at R.File.Write.contents options.now inputs.now timeline.now library.now list.now) }
+{
     if !timeline.has_video() {
         return Err(PlanFault::NoVideo);
     }
@@ -254,12 +307,15 @@ fn plan_for<R: Files + AllocGlobal, O: Write>(
 }
 
 /// Plans, between the ends that the options name.
-fn plan_ends<R: Files + AllocGlobal, I: Read, O: Write>(
+fn plan_ends<R: RunFiles + AllocGlobal, I: Read, O: Write>(
     rt: &R,
     options: &PlanOptions<'_>,
     input: &mut I,
     output: &mut O,
-) -> Result<(), PlanFault> {
+) -> Result<(), PlanFault>
+    ensures { OnOk result (PlansBetween R.reads_at R.makes_at R.File.Read.remaining R.File.Write.contents options.now
+        (I.remaining input.old)) }
+{
     let (list, breaks) = open_breaks(rt, options.breaks, input)?;
     let (library, adverts) = match open_library(rt, options.adverts, input) {
         Ok(opened) => opened,
@@ -282,25 +338,13 @@ fn plan_ends<R: Files + AllocGlobal, I: Read, O: Write>(
     )
 }
 
-/// Runs the subcommand `plan`, and answers the exit status: the list of breaks is read first, then that of the advertisements with their
-/// streams, then the network; then the script is written, and each line told on `output`. A line of the list that plans nothing is
-/// told on `faults` behind the fault, by its number and what was expected; and so is the packet that shows what is wrong with the program of
-/// the network.
-pub fn run_plan_command<R, I, O, E>(
-    rt: &R,
-    options: &PlanOptions<'_>,
-    input: &mut I,
-    output: &mut O,
-    faults: &mut E,
-) -> u8
-where
-    R: Files + AllocGlobal,
-    I: Read,
-    O: Write,
-    E: Write,
-    ensures { result ≤ 1 }
+/// Tells what planning came to, and answers the exit status.
+fn tell_plan<E: Write>(planned: Result<(), PlanFault>, faults: &mut E) -> u8
+    ensures status { result ≤ 1 }
+    ensures stopped { IfErr planned (λ _. result ≡ 1) }
+    ensures silent { IfOk planned (λ _. faults.new ≡ faults.old) }
 {
-    match plan_ends(rt, options, input, output) {
+    match planned {
         Ok(()) => DONE,
         Err(PlanFault::Program(fault)) => report(faults, fault_name(fault)),
         Err(PlanFault::Network(faulty)) => {
@@ -319,4 +363,29 @@ where
         Err(PlanFault::NoTime) => report(faults, "NoTime"),
         Err(PlanFault::Io) => report(faults, "Io"),
     }
+}
+
+/// Runs the subcommand `plan`, and answers the exit status: the list of breaks is read first, then that of the advertisements with their
+/// streams, then the network; then the script is written, and each line told on `output`. A line of the list that plans nothing is
+/// told on `faults` behind the fault, by its number and what was expected; and so is the packet that shows what is wrong with the program of
+/// the network.
+pub fn run_plan_command<R, I, O, E>(
+    rt: &R,
+    options: &PlanOptions<'_>,
+    input: &mut I,
+    output: &mut O,
+    faults: &mut E,
+) -> u8
+where
+    R: RunFiles + AllocGlobal,
+    I: Read,
+    O: Write,
+    E: Write,
+    ensures status { result ≤ 1 }
+    ensures planned { result ≡ 0 → PlansBetween R.reads_at R.makes_at R.File.Read.remaining R.File.Write.contents options.now
+        (I.remaining input.old) }
+    ensures silent { result ≡ 0 → faults.new ≡ faults.old }
+{
+    let planned = plan_ends(rt, options, input, output);
+    tell_plan(planned, faults)
 }

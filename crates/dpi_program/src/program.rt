@@ -1,12 +1,15 @@
 //! The program: a command line, standard streams and files in, an exit status out.
 
-ghost use Rattle.std.specs.Prelude.{◌≡◌, ◌≤◌, None, IsSome, false, IfOk, IfErr, ◌++◌};
+ghost use Rattle.std.specs.Prelude.{◌≡◌, ◌≤◌, None, IsSome, true, false, IfOk, IfErr, ◌++◌};
 ghost use Rattle.std.specs.Bool.{OnTrue};
 ghost use Rattle.std.specs.Io.KnownBytes.{Appends};
 ghost use Rattle.run_ends.specs.Ends.{path_of};
 ghost use Rattle.dpi_program.specs.Commands.{IsPrinted, spliced_lines, injected_lines, services_lines, served_lines};
+ghost use Rattle.dpi_program.specs.Cutting.{CutsBetween, CutsToFile};
 ghost use Rattle.dpi_program.specs.Statuses.{SplicesToStandardStream, SplicesToNamedFile, InjectsToStandardStream};
 ghost use Rattle.dpi_program.specs.Statuses.{InjectsToNamedFile, ServesToStandardStream, ServesToNamedFile};
+ghost use Rattle.dpi_program.specs.Statuses.{SplicesOnAirToStandardStream, SplicesOnAirToNamedFile, InjectsOnAirToStandardStream};
+ghost use Rattle.dpi_program.specs.Statuses.{InjectsOnAirToNamedFile, ServesOnAirToStandardStream, ServesOnAirToNamedFile};
 
 use crate::cutting::run_cut;
 use crate::ends::RunFiles;
@@ -139,6 +142,12 @@ where
     ensures to_file { options.now.is_on_air ≡ false → IsSome (path_of options.now.output) → result ≡ 0 → InjectsToNamedFile
         R.Listener R.reads_at R.makes_at R.File.Read.remaining R.File.Write.contents ⟦<Sharing<'static, &'static mut O> as Write>⟧.contents O.contents
         options.now (I.remaining input.old) output.new }
+    ensures airs_to_standard { options.now.is_on_air ≡ true → path_of options.now.output ≡ None → result ≡ 0
+        → InjectsOnAirToStandardStream R.Listener R.reads_at R.File.Read.remaining ⟦<Sharing<'static, &'static mut E> as Write>⟧.contents O.contents
+        E.contents options.now (I.remaining input.old) output.old output.new }
+    ensures airs_to_file { options.now.is_on_air ≡ true → IsSome (path_of options.now.output) → result ≡ 0 → InjectsOnAirToNamedFile
+        R.Listener R.reads_at R.makes_at R.File.Read.remaining R.File.Write.contents ⟦<Sharing<'static, &'static mut O> as Write>⟧.contents O.contents
+        options.now (I.remaining input.old) output.new }
 {
     let injected = run_inject_command(rt, options, input, output, faults);
     tell_injected(options, injected, output, faults)
@@ -228,6 +237,12 @@ where
         R.reads_at R.File.Read.remaining O.contents E.contents options.now
         (I.remaining input.old) output.old output.new }
     ensures to_file { options.now.is_on_air ≡ false → IsSome (path_of options.now.output) → result ≡ 0 → SplicesToNamedFile
+        R.reads_at R.makes_at R.File.Read.remaining R.File.Write.contents O.contents
+        options.now (I.remaining input.old) output.new }
+    ensures airs_to_standard { options.now.is_on_air ≡ true → path_of options.now.output ≡ None → result ≡ 0
+        → SplicesOnAirToStandardStream R.reads_at R.File.Read.remaining O.contents E.contents options.now
+        (I.remaining input.old) output.old output.new }
+    ensures airs_to_file { options.now.is_on_air ≡ true → IsSome (path_of options.now.output) → result ≡ 0 → SplicesOnAirToNamedFile
         R.reads_at R.makes_at R.File.Read.remaining R.File.Write.contents O.contents
         options.now (I.remaining input.old) output.new }
 {
@@ -341,6 +356,12 @@ where
     ensures to_file { options.now.is_on_air ≡ false → IsSome (path_of options.now.output) → result ≡ 0 → ServesToNamedFile
         R.Listener R.reads_at R.makes_at R.File.Read.remaining R.File.Write.contents ⟦<Sharing<'static, &'static mut O> as Write>⟧.contents O.contents
         options.now (I.remaining input.old) output.new }
+    ensures airs_to_standard { options.now.is_on_air ≡ true → path_of options.now.output ≡ None → result ≡ 0
+        → ServesOnAirToStandardStream R.Listener R.reads_at R.File.Read.remaining ⟦<Sharing<'static, &'static mut E> as Write>⟧.contents O.contents
+        E.contents options.now (I.remaining input.old) output.old output.new }
+    ensures airs_to_file { options.now.is_on_air ≡ true → IsSome (path_of options.now.output) → result ≡ 0 → ServesOnAirToNamedFile
+        R.Listener R.reads_at R.makes_at R.File.Read.remaining R.File.Write.contents ⟦<Sharing<'static, &'static mut O> as Write>⟧.contents O.contents
+        options.now (I.remaining input.old) output.new }
 {
     let served = run_services_command(rt, options, input, output, faults);
     tell_served(options, served, output, faults)
@@ -354,6 +375,7 @@ fn tell_cut<E: Write>(
 ) -> u8
     ensures status { result ≤ 1 }
     ensures stopped { IfErr account (λ _. result ≡ 1) }
+    ensures silent { IfOk account (λ done. done ≡ None → faults.new ≡ faults.old) }
 {
     match account {
         Ok(account) => {
@@ -375,40 +397,21 @@ fn cut<R, I, O, E>(
     faults: &mut E,
 ) -> u8
 where
-    R: Files + AllocGlobal,
+    R: RunFiles + AllocGlobal,
     I: Read,
     O: Write,
     E: Write,
-    ensures { result ≤ 1 }
+    ensures status { result ≤ 1 }
+    ensures to_standard { path_of options.now.output ≡ None → result ≡ 0 → CutsBetween R.reads_at R.File.Read.remaining options.now
+        (I.remaining input.old) (O.contents output.old) (O.contents output.new) }
+    ensures to_file { IsSome (path_of options.now.output) → result ≡ 0 → CutsToFile R.reads_at R.makes_at R.File.Read.remaining
+        R.File.Write.contents options.now (I.remaining input.old) }
+    ensures unread { IsSome (path_of options.now.input) → input.new ≡ input.old }
+    ensures unprinted { IsSome (path_of options.now.output) → output.new ≡ output.old }
+    ensures silent { options.now.is_verbose ≡ false → result ≡ 0 → faults.new ≡ faults.old }
 {
     let account = run_cut(rt, options, input, output);
     tell_cut(options, account, faults)
-}
-
-/// Runs `inspect`, and answers the exit status.
-fn inspect<R, I, O, E>(
-    rt: &R,
-    options: &InspectOptions<'_>,
-    input: &mut I,
-    output: &mut O,
-    faults: &mut E,
-) -> u8
-where
-    R: Files + AllocGlobal,
-    I: Read,
-    O: Write,
-    E: Write,
-    ensures { result ≤ 1 }
-{
-    match run_inspect_command(rt, options, input, output) {
-        Ok(packets) => {
-            if options.is_verbose {
-                let _ = writeln!(faults, "inspect: {packets} packets read");
-            }
-            DONE
-        }
-        Err(stopped) => report_inspect(faults, options, &stopped),
-    }
 }
 
 /// Prints the fault's line of an inspection, and behind it what is known of it where that is asked for.
@@ -425,6 +428,47 @@ fn report_inspect<E: Write>(faults: &mut E, options: &InspectOptions<'_>, stoppe
         let _ = write!(faults, "{trouble}");
     }
     status
+}
+
+/// Tells what an inspection came to, and answers the exit status.
+fn tell_inspected<E: Write>(
+    options: &InspectOptions<'_>,
+    inspected: Result<u64, Stopped>,
+    faults: &mut E,
+) -> u8
+    ensures status { result ≤ 1 }
+    ensures stopped { IfErr inspected (λ _. result ≡ 1) }
+    ensures silent { options.now.is_verbose ≡ false → IfOk inspected (λ _. faults.new ≡ faults.old) }
+{
+    match inspected {
+        Ok(packets) => {
+            if options.is_verbose {
+                let _ = writeln!(faults, "inspect: {packets} packets read");
+            }
+            DONE
+        }
+        Err(stopped) => report_inspect(faults, options, &stopped),
+    }
+}
+
+/// Runs `inspect`, and answers the exit status.
+fn inspect<R, I, O, E>(
+    rt: &R,
+    options: &InspectOptions<'_>,
+    input: &mut I,
+    output: &mut O,
+    faults: &mut E,
+) -> u8
+where
+    R: Files + AllocGlobal,
+    I: Read,
+    O: Write,
+    E: Write,
+    ensures status { result ≤ 1 }
+    ensures silent { options.now.is_verbose ≡ false → result ≡ 0 → faults.new ≡ faults.old }
+{
+    let inspected = run_inspect_command(rt, options, input, output);
+    tell_inspected(options, inspected, faults)
 }
 
 /// Runs the program with the words after its name, and answers its exit status: 0 where all is done, also where help or the version was asked

@@ -2,6 +2,7 @@
 
 ghost use Rattle.std.specs.Prelude.{◌≡◌, ◌≤◌};
 ghost use Rattle.request_texts.specs.Lines.{PrintsRequest};
+ghost use Rattle.dpi_program.specs.Requesting.{PrintsAsked};
 
 use clap::ArgMatches;
 use command_lines::refusals::{DONE, USAGE, refuse, report};
@@ -15,6 +16,7 @@ use std::io::Write;
 fn print_line<O: Write, E: Write>(line: &RequestLine, output: &mut O, faults: &mut E) -> u8
     ensures status { result ≤ 1 }
     ensures printed { result ≡ 0 → PrintsRequest line.now (O.contents output.old) (O.contents output.new) }
+    ensures silent { result ≡ 0 → faults.new ≡ faults.old }
 {
     if print_request(output, line) {
         return DONE;
@@ -29,7 +31,9 @@ fn request<'a, O: Write, E: Write>(
     output: &mut O,
     faults: &mut E,
 ) -> u8
-    ensures { result ≤ 2 }
+    ensures status { result ≤ 2 }
+    ensures printed { result ≡ 0 → PrintsAsked name.now matches.now (O.contents output.old) (O.contents output.new) }
+    ensures silent { result ≡ 0 → faults.new ≡ faults.old }
 {
     match request_options(name, matches) {
         Ok(line) => print_line(&line, output, faults),

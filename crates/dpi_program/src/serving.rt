@@ -1,14 +1,17 @@
 //! The subcommand `services`: a run of several services between the ends that its options name, and what it tells.
 
-ghost use Rattle.std.specs.Prelude.{◌≡◌, None, IsSome, false, IfOk, IfErr, OnOk};
+ghost use Rattle.std.specs.Prelude.{◌≡◌, List, [], length, None, IsSome, true, false, IfOk, IfErr, OnOk};
 ghost use Rattle.ts_packet.specs.Sinks.{Written};
 ghost use Rattle.run_ends.specs.Ends.{path_of};
 ghost use Rattle.service_lists.specs.Lists.{AreReady};
 ghost use Rattle.chain_services.specs.Runs.{terms_by};
 ghost use Rattle.passages.specs.Runs.{PassesAll, Serves, AskerTells, lost_replies};
-ghost use Rattle.dpi_program.specs.Runs.{known_from, ServesAndPrints};
+ghost use Rattle.services_on_air.specs.Standing.{AirServicesStandFor};
+ghost use Rattle.services_on_air.specs.Serving.{AirServicesBegin};
+ghost use Rattle.passages.specs.AirRuns.{AirServes};
+ghost use Rattle.dpi_program.specs.Runs.{known_from, ServesAndPrints, ServesOnAirAndPrints, PassesOnAir, AreOfConfigs};
 ghost use Rattle.dpi_program.specs.Inputs.{AreServicesOf, AreServicesAt, AreServiceInputs};
-ghost use Rattle.dpi_program.specs.Commands.{ServesBetween, ServesToFile};
+ghost use Rattle.dpi_program.specs.Commands.{ServesBetween, ServesToFile, ServesOnAirBetween, ServesOnAirToFile};
 
 use crate::counting::air_counts;
 use crate::ends::{LogEnd, Network, RunFiles, make_output, open_log, open_network};
@@ -31,6 +34,7 @@ use passages::kinds::Serving;
 use passages::recovery_watch::RecoveryWatch;
 use passages::running::{Ran, out_of_memory, run_from, stopped, with_replies};
 use passages::tell::{LineAbout, ServicesAccount, Side, Stopped};
+use psi_tables::Config;
 use report_texts::AirCounts;
 use run_ends::{Attended, End};
 use run_events::{Hearing, Watch};
@@ -190,33 +194,41 @@ fn run_on_air<R, O, W, L, A, H, V>(
     is_live: bool,
     input: R,
     asker: &mut Asker<W, L>,
+    configs: &[Config],
     services: AirServices,
     libraries: &[AdLibrary],
     watch: &mut A,
     hearing: &mut Hearing<H>,
     reading: V,
-    output: O,
+    output: &mut O,
 ) -> Result<Served, Stopped>
 where
     R: Read + Drop,
-    O: Write + Drop,
+    O: Write,
     W: Write + Drop,
     L: OpenListener + Drop,
     L::Stream: OpenStream + Read + Write + Drop,
     A: ServicesWatch,
     H: Watch + Copy + Drop,
     V: RecoveryWatch + Drop,
+    requires stands { AirServicesStandFor services configs.now [] }
+    requires begins { AirServicesBegin services configs.now }
+    requires libraries { length libraries.now ≡ length configs.now }
+    ensures done { IfOk result (λ served. PassesOnAir (AirServes (terms_by configs.now libraries.now) (AskerTells W.contents asker.old asker.new))
+        (R.remaining input) (Written (O.contents output.new) (O.contents output.old)) served.report served.air) }
     ensures printed { OnOk result (lost_replies asker.new ≡ 0) }
 {
     let watched = watched_for(is_verbose);
     let passage = ServingOnAir {
+        configs,
         services,
-        asker: &mut *asker,
         libraries,
         watch,
         hearing,
     };
-    let ran = run_on_air_from(alloc, passage, watched, is_live, input, reading, output);
+    let ran = run_on_air_from(
+        alloc, passage, asker, watched, is_live, input, reading, output,
+    );
     let Ran { report, seen } = with_replies(ran, asker.has_lost_a_reply())?;
     let air = Some(air_counts(&report));
     Ok(Served {
@@ -249,11 +261,15 @@ where
     T: Write + Drop,
     X: Write,
     E: Write,
-    requires { AreReady list }
+    requires ready { AreReady list }
+    requires stands { AreOfConfigs on_air list.configs.items }
     ensures done { on_air ≡ None → IfOk result (λ served. PassesAll
         (Serves (terms_by list.configs.items list.libraries.items) (AskerTells W.contents asker.old asker.new)) (R.remaining input)
         (Written (O.contents output.new) (O.contents output.old)) served.report) }
     ensures printed { OnOk result (lost_replies asker.new ≡ 0) }
+    ensures on_air { IsSome on_air → IfOk result (λ served. PassesOnAir
+        (AirServes (terms_by list.configs.items list.libraries.items) (AskerTells W.contents asker.old asker.new)) (R.remaining input)
+        (Written (O.contents output.new) (O.contents output.old)) served.report served.air) }
     ensures plain { on_air ≡ None → IfOk result (λ served. served.air ≡ None) }
 {
     let Some(services) = on_air else {
@@ -261,7 +277,7 @@ where
             alloc, is_verbose, is_live, input, asker, list, hearing, output,
         );
     };
-    let libraries = list.libraries.as_slice();
+    let (configs, libraries) = (list.configs.as_slice(), list.libraries.as_slice());
     let listening = hearing.watch;
     match told {
         Some(stream) => {
@@ -269,15 +285,15 @@ where
             let watch = &mut AirLog::new(TellingInTurn::new(&teller), listening);
             let reading = TellingInTurn::new(&teller);
             run_on_air(
-                alloc, is_verbose, is_live, input, asker, services, libraries, watch, hearing,
-                reading, output,
+                alloc, is_verbose, is_live, input, asker, configs, services, libraries, watch,
+                hearing, reading, output,
             )
         }
         None => {
             let watch = &mut AirLog::new(Unwatched, listening);
             run_on_air(
-                alloc, is_verbose, is_live, input, asker, services, libraries, watch, hearing,
-                Unwatched, output,
+                alloc, is_verbose, is_live, input, asker, configs, services, libraries, watch,
+                hearing, Unwatched, output,
             )
         }
     }
@@ -361,12 +377,17 @@ where
     T: Write + Drop,
     X: Write,
     E: Write,
-    requires { AreReady list }
+    requires ready { AreReady list }
+    requires stands { AreOfConfigs on_air list.configs.items }
     ensures done { on_air ≡ None → IfOk result (λ served. PassesAll
         (Serves (terms_by list.configs.items list.libraries.items) (AskerTells W.contents asker.old asker.new))
         (known_from F.remaining network.file (I.remaining input.old)) (Written (O.contents output.new) (O.contents output.old))
         served.report) }
     ensures printed { OnOk result (lost_replies asker.new ≡ 0) }
+    ensures on_air { IsSome on_air → IfOk result (λ served. PassesOnAir
+        (AirServes (terms_by list.configs.items list.libraries.items) (AskerTells W.contents asker.old asker.new))
+        (known_from F.remaining network.file (I.remaining input.old)) (Written (O.contents output.new) (O.contents output.old))
+        served.report served.air) }
     ensures plain { on_air ≡ None → IfOk result (λ served. served.air ≡ None) }
 {
     let is_live = network.is_live();
@@ -401,10 +422,14 @@ where
     T: Write + Drop,
     X: Write + Drop,
     E: Write + Drop,
-    requires { AreReady opened.list }
+    requires ready { AreReady opened.list }
+    requires stands { AreOfConfigs on_air opened.list.configs.items }
     ensures done { on_air ≡ None → IfOk result (λ served. ServesAndPrints
         (terms_by opened.list.configs.items opened.list.libraries.items) (known_from F.remaining opened.network.file (I.remaining input.old))
         (Written (O.contents output.new) (O.contents output.old)) W.contents opened.asker served.report) }
+    ensures on_air { IsSome on_air → IfOk result (λ served. ServesOnAirAndPrints
+        (terms_by opened.list.configs.items opened.list.libraries.items) (known_from F.remaining opened.network.file (I.remaining input.old))
+        (Written (O.contents output.new) (O.contents output.old)) W.contents opened.asker served.report served.air) }
     ensures plain { on_air ≡ None → IfOk result (λ served. served.air ≡ None) }
 {
     let ServiceInputs {
@@ -435,6 +460,8 @@ fn services_on_air_of(
     options: &ServicesOptions<'_>,
     list: &ServiceList,
 ) -> Result<Option<AirServices>, Stopped>
+    ensures on_air { options.now.is_on_air ≡ true → IfOk result IsSome }
+    ensures stands { IfOk result (λ on_air. AreOfConfigs on_air list.now.configs.items) }
     ensures plain { options.now.is_on_air ≡ false → IfOk result (λ on_air. on_air ≡ None) }
     ensures unflushed { IfErr result (λ stopped. stopped.is_flushed ≡ false) }
 {
@@ -463,6 +490,8 @@ where
     T: Write + Copy + Drop,
     ensures done { options.now.is_on_air ≡ false → IfOk result (λ served. ServesToFile R.Listener R.reads_at R.makes_at
         R.File.Read.remaining R.File.Write.contents W.contents options.now (I.remaining input.old) served.report) }
+    ensures on_air { options.now.is_on_air ≡ true → IfOk result (λ served. ServesOnAirToFile R.Listener R.reads_at R.makes_at
+        R.File.Read.remaining R.File.Write.contents W.contents options.now (I.remaining input.old) served.report served.air) }
     ensures plain { options.now.is_on_air ≡ false → IfOk result (λ served. served.air ≡ None) }
 {
     let opened = open_inputs(rt, options, input, replies)?;
@@ -502,6 +531,9 @@ where
     T: Write + Copy + Drop,
     ensures done { options.now.is_on_air ≡ false → IfOk result (λ served. ServesBetween R.Listener R.reads_at R.File.Read.remaining
         T.contents options.now (I.remaining input.old) (Written (O.contents output.new) (O.contents output.old)) served.report) }
+    ensures on_air { options.now.is_on_air ≡ true → IfOk result (λ served. ServesOnAirBetween R.Listener R.reads_at
+        R.File.Read.remaining T.contents options.now (I.remaining input.old) (Written (O.contents output.new) (O.contents output.old))
+        served.report served.air) }
     ensures plain { options.now.is_on_air ≡ false → IfOk result (λ served. served.air ≡ None) }
 {
     let opened = open_inputs(rt, options, input, faults)?;
@@ -545,6 +577,12 @@ where
     ensures to_file { options.now.is_on_air ≡ false → IsSome (path_of options.now.output) → IfOk result (λ served. ServesToFile
         R.Listener R.reads_at R.makes_at R.File.Read.remaining R.File.Write.contents ⟦<Sharing<'static, &'static mut O> as Write>⟧.contents
         options.now (I.remaining input.old) served.report) }
+    ensures airs_to_standard { options.now.is_on_air ≡ true → path_of options.now.output ≡ None → IfOk result (λ served.
+        ServesOnAirBetween R.Listener R.reads_at R.File.Read.remaining ⟦<Sharing<'static, &'static mut E> as Write>⟧.contents options.now
+        (I.remaining input.old) (Written (O.contents output.new) (O.contents output.old)) served.report served.air) }
+    ensures airs_to_file { options.now.is_on_air ≡ true → IsSome (path_of options.now.output) → IfOk result (λ served. ServesOnAirToFile
+        R.Listener R.reads_at R.makes_at R.File.Read.remaining R.File.Write.contents ⟦<Sharing<'static, &'static mut O> as Write>⟧.contents
+        options.now (I.remaining input.old) served.report served.air) }
     ensures plain { options.now.is_on_air ≡ false → IfOk result (λ served. served.air ≡ None) }
 {
     let stream = RefCell::new(faults);

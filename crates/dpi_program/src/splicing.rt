@@ -5,11 +5,13 @@ ghost use Rattle.ts_packet.specs.Sinks.{Written};
 ghost use Rattle.ad_library.specs.Library.{held};
 ghost use Rattle.ad_lists.specs.Lists.{is_at_line};
 ghost use Rattle.passages.specs.Runs.{PassesAll, Splices};
+ghost use Rattle.passages.specs.AirRuns.{AirSplices};
 ghost use Rattle.passages.specs.Stops.{SplicingStops, StopsAtDevice};
 ghost use Rattle.run_ends.specs.Ends.{path_of};
-ghost use Rattle.dpi_program.specs.Runs.{known_from};
+ghost use Rattle.dpi_program.specs.Runs.{known_from, PassesOnAir};
 ghost use Rattle.dpi_program.specs.Inputs.{IsLibraryOf, IsLibraryAt, AreSpliceInputs};
 ghost use Rattle.dpi_program.specs.Commands.{SplicesBetween, SplicesToFile, SpliceStopsBetween};
+ghost use Rattle.dpi_program.specs.Commands.{SplicesOnAirBetween, SplicesOnAirToFile};
 
 use crate::counting::air_counts;
 use crate::ends::{LogEnd, Network, RunFiles, make_output, open_log, open_network};
@@ -129,14 +131,16 @@ fn splice_watched<R, A, H, V, O>(
     watch: &mut A,
     told: H,
     reading: V,
-    output: O,
+    output: &mut O,
 ) -> Result<Spliced, Stopped>
 where
     R: Read + Drop,
     A: AirWatch,
     H: run_events::Watch + Drop,
     V: RecoveryWatch + Drop,
-    O: Write + Drop,
+    O: Write,
+    ensures on_air { IfOk result (λ spliced. PassesOnAir (AirSplices options.now.config (held library.now)) (R.remaining input)
+        (Written (O.contents output.new) (O.contents output.old)) spliced.report spliced.air) }
 {
     let watched = options.is_verbose.then_some(options.config.cue_pid);
     let passage = SplicingOnAir {
@@ -146,7 +150,14 @@ where
         told,
     };
     let Ran { report, seen } = run_on_air_from(
-        alloc, passage, watched, is_live, input, reading, output,
+        alloc,
+        passage,
+        &mut Unasked,
+        watched,
+        is_live,
+        input,
+        reading,
+        output,
     )?;
     Ok(Spliced {
         report: report.report.report,
@@ -176,6 +187,9 @@ where
     ensures done { options.now.is_on_air ≡ false → IfOk result (λ spliced. PassesAll
         (Splices options.now.config (held library.now)) (R.remaining input) (Written (O.contents output.new) (O.contents output.old))
         spliced.report) }
+    ensures on_air { options.now.is_on_air ≡ true → IfOk result (λ spliced. PassesOnAir
+        (AirSplices options.now.config (held library.now)) (R.remaining input) (Written (O.contents output.new) (O.contents output.old))
+        spliced.report spliced.air) }
     ensures plain { options.now.is_on_air ≡ false → IfOk result (λ spliced. spliced.air ≡ None) }
     ensures stopped { options.now.is_on_air ≡ false → IfErr result (λ stopped. stopped.is_flushed ≡ true
         → StopsAtDevice (SplicingStops options.now.config (held library.now) stopped.fault) (R.remaining input)
@@ -273,6 +287,9 @@ where
     ensures done { options.now.is_on_air ≡ false → IfOk result (λ spliced. PassesAll
         (Splices options.now.config (held opened.library)) (known_from F.remaining opened.network.file (I.remaining input.old))
         (Written (O.contents output.new) (O.contents output.old)) spliced.report) }
+    ensures on_air { options.now.is_on_air ≡ true → IfOk result (λ spliced. PassesOnAir
+        (AirSplices options.now.config (held opened.library)) (known_from F.remaining opened.network.file (I.remaining input.old))
+        (Written (O.contents output.new) (O.contents output.old)) spliced.report spliced.air) }
     ensures plain { options.now.is_on_air ≡ false → IfOk result (λ spliced. spliced.air ≡ None) }
     ensures stopped { options.now.is_on_air ≡ false → IfErr result (λ stopped. stopped.is_flushed ≡ true
         → StopsAtDevice (SplicingStops options.now.config (held opened.library) stopped.fault)
@@ -316,6 +333,8 @@ where
     T: Write + Copy + Drop,
     ensures done { options.now.is_on_air ≡ false → IfOk result (λ spliced. SplicesToFile R.reads_at R.makes_at R.File.Read.remaining
         R.File.Write.contents options.now (I.remaining input.old) spliced.report) }
+    ensures on_air { options.now.is_on_air ≡ true → IfOk result (λ spliced. SplicesOnAirToFile R.reads_at R.makes_at R.File.Read.remaining
+        R.File.Write.contents options.now (I.remaining input.old) spliced.report spliced.air) }
     ensures plain { options.now.is_on_air ≡ false → IfOk result (λ spliced. spliced.air ≡ None) }
 {
     let opened = open_inputs(rt, options, input)?;
@@ -344,6 +363,8 @@ where
     T: Write + Copy + Drop,
     ensures done { options.now.is_on_air ≡ false → IfOk result (λ spliced. SplicesBetween R.reads_at R.File.Read.remaining options.now
         (I.remaining input.old) (Written (O.contents output.new) (O.contents output.old)) spliced.report) }
+    ensures on_air { options.now.is_on_air ≡ true → IfOk result (λ spliced. SplicesOnAirBetween R.reads_at R.File.Read.remaining options.now
+        (I.remaining input.old) (Written (O.contents output.new) (O.contents output.old)) spliced.report spliced.air) }
     ensures plain { options.now.is_on_air ≡ false → IfOk result (λ spliced. spliced.air ≡ None) }
     ensures stopped { options.now.is_on_air ≡ false → IfErr result (λ stopped. stopped.is_flushed ≡ true
         → SpliceStopsBetween R.reads_at R.File.Read.remaining options.now (I.remaining input.old) (O.contents output.old)
@@ -383,6 +404,12 @@ where
         (Written (O.contents output.new) (O.contents output.old)) spliced.report) }
     ensures to_file { options.now.is_on_air ≡ false → IsSome (path_of options.now.output) → IfOk result (λ spliced. SplicesToFile
         R.reads_at R.makes_at R.File.Read.remaining R.File.Write.contents options.now (I.remaining input.old) spliced.report) }
+    ensures airs_to_standard { options.now.is_on_air ≡ true → path_of options.now.output ≡ None → IfOk result (λ spliced.
+        SplicesOnAirBetween R.reads_at R.File.Read.remaining options.now (I.remaining input.old)
+        (Written (O.contents output.new) (O.contents output.old)) spliced.report spliced.air) }
+    ensures airs_to_file { options.now.is_on_air ≡ true → IsSome (path_of options.now.output) → IfOk result (λ spliced. SplicesOnAirToFile
+        R.reads_at R.makes_at R.File.Read.remaining R.File.Write.contents options.now (I.remaining input.old) spliced.report
+        spliced.air) }
     ensures plain { options.now.is_on_air ≡ false → IfOk result (λ spliced. spliced.air ≡ None) }
     ensures stopped { options.now.is_on_air ≡ false → path_of options.now.output ≡ None → IfErr result (λ stopped.
         stopped.is_flushed ≡ true → SpliceStopsBetween R.reads_at R.File.Read.remaining options.now (I.remaining input.old)

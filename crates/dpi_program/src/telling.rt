@@ -1,6 +1,6 @@
 //! What is told of a run besides its report: the log of events, and warnings.
 
-ghost use Rattle.std.specs.Prelude.{◌≡◌, IfErr, IfOk, true, false, is_ok, is_some};
+ghost use Rattle.std.specs.Prelude.{◌≡◌, None, IfErr, IfOk, true, false, is_ok, is_some};
 
 use event_logs::{EventLog, Listening, Telling, Warnings};
 use passages::asking::Asker;
@@ -109,7 +109,9 @@ pub(crate) fn with_late<W, L>(warnings: Option<Warnings>, asker: &Asker<W, L>) -
 }
 
 /// Prints what is to be warned of.
-pub(crate) fn print_warnings<E: Write>(faults: &mut E, warnings: &Option<Warnings>) {
+pub(crate) fn print_warnings<E: Write>(faults: &mut E, warnings: &Option<Warnings>)
+    ensures { warnings.now ≡ None → faults.new ≡ faults.old }
+{
     if let Some(warnings) = warnings {
         warnings.print(faults);
     }

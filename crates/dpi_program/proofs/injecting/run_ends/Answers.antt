@@ -9,3 +9,9 @@ returns-clause-done g c = λ off.
     let later = c.inject_network-ran.new.asker in
     let went : c.inject_network-ran.result ≡ Ok c.in_ok-injected.injected = sym c.tell_fault-2.ensures ∙ c.in_ok-injected.was in
     (later, subst (λ r. OnOk r (lost_replies later ≡ 0)) went c.inject_network-ran.ensures.printed, IfOk-at_ok _ went (c.inject_network-ran.ensures.done off))
+
+pub returns-clause-on_air : goal.returns-clause-on_air
+returns-clause-on_air g c = λ on.
+    let later = c.inject_network-ran.new.asker in
+    let went : c.inject_network-ran.result ≡ Ok c.in_ok-injected.injected = sym c.tell_fault-2.ensures ∙ c.in_ok-injected.was in
+    (later, subst (λ r. OnOk r (lost_replies later ≡ 0)) went c.inject_network-ran.ensures.printed, IfOk-at_ok _ went (c.inject_network-ran.ensures.on_air on))

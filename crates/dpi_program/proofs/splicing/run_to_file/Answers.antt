@@ -16,3 +16,16 @@ returns-clause-done g c = λ off.
     let is_made : IsMade g.R.RunFiles.makes_at c.args.options.now.output (about ∷ list ∷ log ∷ []) c.in_ok-file.file =
     subst (λ beside. IsMade g.R.RunFiles.makes_at c.args.options.now.output beside c.in_ok-file.file) others (IfOk-at_ok _ made c.make_output-made.ensures.made) in
     IfOk-weaker c.run_ends.result _ _ (λ ran done. (c.in_ok-file.file, c.run_ends.new.output, (c.in_ok-opened.opened, g.I.Read.remaining c.open_inputs.new.input, c.in_ok-opened.ensures.opened, ((log, is_made), done)))) (c.run_ends.ensures.done off)
+
+pub returns-clause-on_air : goal.returns-clause-on_air
+returns-clause-on_air g c = λ on.
+    let about = c.in_ok-opened.opened.network.about in
+    let list = c.in_ok-opened.opened.list in
+    let log = c.in_ok-end.field-0.about in
+    let made : c.make_output-made.result ≡ Ok c.in_ok-file.file = sym c.tell_fault.ensures ∙ c.in_ok-file.was in
+    let others : map option_copied (c.as_ref-about.result ∷ c.as_ref-list.result ∷ c.as_ref.result ∷ []) ≡ about ∷ list ∷ log ∷ [] =
+    ap (λ x. x ∷ option_copied c.as_ref-list.result ∷ option_copied c.as_ref.result ∷ []) c.as_ref-about.ensures.value
+    ∙ ap (λ x. about ∷ x ∷ option_copied c.as_ref.result ∷ []) c.as_ref-list.ensures.value ∙ ap (λ x. about ∷ list ∷ x ∷ []) c.as_ref.ensures.value in
+    let is_made : IsMade g.R.RunFiles.makes_at c.args.options.now.output (about ∷ list ∷ log ∷ []) c.in_ok-file.file =
+    subst (λ beside. IsMade g.R.RunFiles.makes_at c.args.options.now.output beside c.in_ok-file.file) others (IfOk-at_ok _ made c.make_output-made.ensures.made) in
+    IfOk-weaker c.run_ends.result _ _ (λ ran done. (c.in_ok-file.file, c.run_ends.new.output, (c.in_ok-opened.opened, g.I.Read.remaining c.open_inputs.new.input, c.in_ok-opened.ensures.opened, ((log, is_made), done)))) (c.run_ends.ensures.on_air on)

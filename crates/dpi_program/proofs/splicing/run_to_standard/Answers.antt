@@ -7,3 +7,6 @@ returns-clause-done g c = λ off. IfOk-weaker c.run_ends.result _ _ (λ ran done
 
 pub returns-clause-stopped : goal.returns-clause-stopped
 returns-clause-stopped g c = λ off. if_err_so c.run_ends.result _ _ (λ stopped h flushed. (c.in_ok-opened.opened, g.I.Read.remaining c.open_inputs.new.input, c.in_ok-opened.ensures.opened, h flushed)) (c.run_ends.ensures.stopped off)
+
+pub returns-clause-on_air : goal.returns-clause-on_air
+returns-clause-on_air g c = λ on. IfOk-weaker c.run_ends.result _ _ (λ ran done. (c.in_ok-opened.opened, g.I.Read.remaining c.open_inputs.new.input, c.in_ok-opened.ensures.opened, done)) (c.run_ends.ensures.on_air on)
