@@ -14,7 +14,7 @@ use Rattle.ad_library.specs.Stops.{StoppedAt, LastReadCameTo}
 use Rattle.ad_library.specs.Advertisements.{Advertisement}
 use Rattle.ad_library.specs.Library.{held}
 use Rattle.decimal_numbers.specs.Numbers.{number_below}
-use Rattle.ad_lists.specs.Lists.{is_blank, entry_of, paired, is_list_line, is_line, text_of, with_number, numbers_of, has_number, are_apart, IsAdvert, FilesOne, IsFiled, IsRead, StandsIn, BlamesAd, BlamesStream, BlamesLine, EndsLine, Blames, StopsAt, StallsOver, StopsOver, LastOver}
+use Rattle.ad_lists.specs.Lists.{is_blank, entry_of, paired, is_list_line, is_line, text_of, with_number, numbers_of, has_number, are_apart, IsAdvert, FilesOne, IsFiled, AreDescribed, IsRead, StandsIn, BlamesAd, BlamesStream, BlamesLine, EndsLine, Blames, StopsAt, StallsOver, StopsOver, LastOver}
 use Rattle.ad_lists.specs.declared.list.Loading.{Loading}
 use Rattle.ad_lists.specs.declared.list.ListFault.{ListFault}
 use Rattle.ad_lists.specs.declared.list.ListFault.TheVariants.{BadList, File, Io, Turns, Ad, OutOfMemory}
@@ -48,15 +48,16 @@ line_push (x ∷ bs) b h other =
     both false q e = absurd (grind (arith, e))
 
 -- a byte more of a line
-pub pushed : {A : Type 0} (old new : Loading A) (b : ℕ) (text : List ℕ) → (b == 10) ≡ false → new.library ≡ old.library → new.line.items ≡ old.line.items ++ b ∷ []
+pub pushed : {A : Type 0} (old new : Loading A) (b : ℕ) (text : List ℕ) → (b == 10) ≡ false → new.library ≡ old.library → new.streams ≡ old.streams → new.line.items ≡ old.line.items ++ b ∷ []
     → new.number ≡ old.number → IsRead old text → IsRead new (text ++ b ∷ [])
-pushed old new b text other same items number h = record {
+pushed old new b text other same streams items number h = record {
   before = h.before;
   number_is = number ∙ h.number_is;
   text_is = ap (λ t. t ++ b ∷ []) h.text_is ∙ append_assoc (text_of h.before) old.line.items (b ∷ []) ∙ ap (λ x. text_of h.before ++ x) (sym items);
   line = ap is_line items ∙ line_push old.line.items b h.line other;
   lines = h.lines;
   filed = subst (λ library. IsFiled library h.before) (sym same) h.filed;
+  described = ap (λ v. length v.items) streams ∙ h.described ∙ ap (λ library. index_map_len library.adverts) (sym same);
 }
 
 one_more : (n : ℕ) → min (capped (1 + n) + 1) (2 ^ 64 - 1) ≡ capped (1 + suc n)
@@ -64,8 +65,8 @@ one_more n = omega arith
 
 -- the end of a line
 pub ended : {A : Type 0} (old new : Loading A) (b : ℕ) (text : List ℕ) → b ≡ 10 → new.line.items ≡ [] → new.number ≡ min (old.number + 1) (2 ^ 64 - 1)
-    → (h : IsRead old text) → IsFiled new.library (old.line.items ∷ h.before) → IsRead new (text ++ b ∷ [])
-ended old new b text end items number h filed = record {
+    → (h : IsRead old text) → IsFiled new.library (old.line.items ∷ h.before) → AreDescribed new.streams.items new.library → IsRead new (text ++ b ∷ [])
+ended old new b text end items number h filed described = record {
   before = old.line.items ∷ h.before;
   number_is = number ∙ ap (λ n. min (n + 1) (2 ^ 64 - 1)) h.number_is ∙ one_more (length h.before);
   text_is = (λ i. h.text_is i ++ end i ∷ []) ∙ append_assoc (text_of h.before) old.line.items (10 ∷ []) ∙ sym (append-nil (text_of (old.line.items ∷ h.before)))
@@ -73,6 +74,7 @@ ended old new b text end items number h filed = record {
   line = ap is_line items;
   lines = λ i. h.line i && h.lines i;
   filed = filed;
+  described = described;
 }
 
 -- ---- where a list stops
@@ -178,8 +180,8 @@ stream_line library OutOfMemory line ls e entry h b = ap is_some entry
 
 -- nothing was read
 pub nothing_read : {A : Type 0} (l : Loading A) → ((id : ℕ) → held l.library id ≡ None) → index_map_len l.library.adverts ≡ 0 → l.line.items ≡ []
-    → l.number ≡ 1 → IsRead l []
-nothing_read l empty size items number = record {
+    → l.number ≡ 1 → l.streams.items ≡ [] → IsRead l []
+nothing_read l empty size items number none = record {
   before = [];
   number_is = number;
   text_is = sym items;
@@ -192,6 +194,7 @@ nothing_read l empty size items number = record {
     adverts = λ id. subst (λ o. IfSome o IsAdvert) (sym (empty id)) tt;
     size = size;
   };
+  described = ap length none ∙ sym size;
 }
 
 -- ---- bytes of the list, one after another

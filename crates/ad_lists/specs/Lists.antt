@@ -4,6 +4,7 @@ use Rattle.std.specs.Prelude.{◌≡◌, ◌↔◌, ◌⊎◌, ◌≤◌, ◌+�
 use Rattle.std.specs.List.{list_all, list_any, before_first, after_first}
 use Rattle.std.specs.Char.{is_ascii_whitespace}
 use Rattle.std.specs.Str.{is_utf8}
+use Rattle.std.specs.declared.fs.attrs.Metadata.{Metadata}
 use Rattle.indexmap.specs.IndexMap.{index_map_len}
 use Rattle.ts_packet.specs.declared.tally.Tally.{Tally}
 use Rattle.ts_packet.specs.Packets.{packets_of}
@@ -101,6 +102,14 @@ pub record IsFiled {A : Type 0} (library : AdLibrary A) (ls : List (List ℕ)) :
   pub adverts : (id : ℕ) → IfSome (held library id) IsAdvert
   pub size : index_map_len library.adverts ≡ length (numbers_of ls)
 
+-- how many advertisements it has
+abbrev pub count_of : {A : Type 0} → AdLibrary A → ℕ
+count_of library = index_map_len library.adverts
+
+-- each stream of a library is described: there is one description for each advertisement
+abbrev pub AreDescribed : {A : Type 0} → List Metadata → AdLibrary A → Type 0
+AreDescribed streams library = length streams ≡ count_of library
+
 -- the number of the line behind these, from 1
 abbrev pub number_behind : List (List ℕ) → ℕ
 number_behind before = capped (1 + length before)
@@ -113,6 +122,7 @@ pub record IsRead {A : Type 0} (loading : Loading A) (text : List ℕ) : Type 0 
   pub line : is_line loading.line.items ≡ true
   pub lines : list_all is_line before ≡ true
   pub filed : IsFiled loading.library before
+  pub described : AreDescribed loading.streams.items loading.library
 
 -- THE LIBRARY OF A LIST: that of its lines
 pub record IsListed {A : Type 0} (library : AdLibrary A) (text : List ℕ) : Type 0 where

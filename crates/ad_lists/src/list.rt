@@ -1,17 +1,18 @@
 //! A list of advertisements: lines of a number and the path of a stream.
 
-ghost use Rattle.std.specs.Prelude.{◌≡◌, ◌++◌, ◌∷◌, [], ℕ, List, Option, Err, is_some, option_map, IfOk, IfErr, OnOk, IfSome};
+ghost use Rattle.std.specs.Prelude.{◌≡◌, ◌+◌, ◌++◌, ◌∷◌, [], ℕ, List, length, Option, Err, is_some, option_map, IfOk, IfErr, OnOk, IfSome};
 ghost use Rattle.indexmap.specs.IndexMap.{index_map_len};
 ghost use Rattle.ts_packet.specs.Transfers.{LastMovedNone};
 ghost use Rattle.ad_library.specs.Library.{held};
 ghost use Rattle.ad_lists.specs.Lists.{is_blank, entry_of, numbers_of, FilesOne, IsFiled, IsRead, IsListed, StandsIn};
-ghost use Rattle.ad_lists.specs.Lists.{SaysOf, DeviceBlamed, DeviceStopsAt, StallsOver, BlamesStream};
+ghost use Rattle.ad_lists.specs.Lists.{SaysOf, DeviceBlamed, DeviceStopsAt, StallsOver, BlamesStream, AreDescribed};
 ghost use Rattle.ad_lists.specs.Lists.{BlamesLine, StopsAt, ListBlamed, IsOfLine};
 
 use ad_library::{AdFault, AdLibrary};
 use decimal_numbers::number_below;
 use run_ends::open_input;
 use std::alloc::Allocator;
+use std::fs::Metadata;
 use std::io::{self, BufReader, Read};
 use std::rt::Files;
 use thiserror::Error;
@@ -101,6 +102,7 @@ pub fn load_into<R: Files, M: Allocator + Copy, S: Source>(
     requires { IsRead loading.old [] }
     ensures lists { OnOk result ((text : List ℕ) × IfSome (S.remaining list.old) (λ bs. bs ≡ text)
         × IsListed loading.new.library text) }
+    ensures described { OnOk result (AreDescribed loading.new.streams.items loading.new.library) }
     ensures stops { IfErr result (λ f. IfSome (S.remaining list.old) (StopsAt f)) }
     ensures stands { IfErr result (λ _. IfSome (S.remaining list.old) (StandsIn loading.new)) }
     ensures blamed { IfErr result (λ f. ListBlamed f (S.counts list.old) (S.counts list.new)) }
@@ -125,6 +127,8 @@ pub fn load_into<R: Files, M: Allocator + Copy, S: Source>(
 #[derive(Drop)]
 pub struct Loading<M: Allocator> {
     library: AdLibrary<M>,
+    /// What the system says of each stream that was opened: a run that writes over one would destroy it.
+    streams: Vec<Metadata, M>,
     /// The line that is being read, as far as it came.
     line: Vec<u8, M>,
     /// The number of that line, from 1.
@@ -145,6 +149,7 @@ impl<M: Allocator> Loading<M> {
     {
         Loading {
             library: AdLibrary::new_in(alloc),
+            streams: Vec::new(alloc),
             line: Vec::new(alloc),
             number: 1,
             reason: None,
@@ -171,6 +176,19 @@ impl<M: Allocator> Loading<M> {
     {
         let Loading { library, .. } = self;
         library
+    }
+
+    /// The advertisements of the lines so far, and what the system says of each of their streams, in the order of the lines.
+    pub fn into_parts(self) -> (AdLibrary<M>, Vec<Metadata, M>)
+        ensures library { result.0 ≡ self.library }
+        ensures streams { result.1 ≡ self.streams }
+    {
+        let Loading {
+            library,
+            streams,
+            ..
+        } = self;
+        (library, streams)
     }
 
     /// The system's reason, where the stream of the line in which the loading stands cannot be opened.
@@ -231,6 +249,8 @@ impl<M: Allocator + Copy> Loading<M> {
     /// The end of the list, behind which the end of the last line may be missing.
     fn finish<R: Files>(&mut self, rt: &R, alloc: M) -> Result<(), ListFault>
         ensures ok { (text : List ℕ) → IsRead self.old text → OnOk result (IsListed self.new.library text) }
+        ensures described { (text : List ℕ) → IsRead self.old text
+            → OnOk result (AreDescribed self.new.streams.items self.new.library) }
         ensures stops { (text : List ℕ) → IsRead self.old text → IfErr result (λ f. StopsAt f text) }
         ensures stands { (text : List ℕ) → IsRead self.old text → IfErr result (λ _. StandsIn self.new text) }
         ensures refused { IfErr result IsOfLine }
@@ -245,6 +265,8 @@ impl<M: Allocator + Copy> Loading<M> {
     fn load_line<R: Files>(&mut self, rt: &R, alloc: M) -> Result<(), ListFault>
         ensures ok { (ls : List (List ℕ)) → IsFiled self.old.library ls
             → OnOk result (IsFiled self.new.library (self.old.line.items ∷ ls)) }
+        ensures described { AreDescribed self.old.streams.items self.old.library
+            → OnOk result (AreDescribed self.new.streams.items self.new.library) }
         ensures stops { (ls : List (List ℕ)) → IsFiled self.old.library ls
             → IfErr result (λ f. BlamesLine f self.old.line.items (numbers_of ls)) }
         ensures refused { IfErr result IsOfLine }
@@ -252,7 +274,8 @@ impl<M: Allocator + Copy> Loading<M> {
         ensures number { self.new.number ≡ self.old.number }
     {
         let line = self.line.as_slice();
-        match load_line(rt, alloc, &mut self.library, line, &mut self.reason) {
+        let (library, streams) = (&mut self.library, &mut self.streams);
+        match load_line(rt, alloc, library, streams, line, &mut self.reason) {
             Ok(()) => Ok(()),
             Err(fault) => Err(fault),
         }
@@ -290,10 +313,12 @@ fn load_line<R: Files, M: Allocator + Copy>(
     rt: &R,
     alloc: M,
     library: &mut AdLibrary<M>,
+    streams: &mut Vec<Metadata, M>,
     line: &[u8],
     reason: &mut Option<io::Error>,
 ) -> Result<(), ListFault>
     ensures ok { (ls : List (List ℕ)) → IsFiled library.old ls → OnOk result (IsFiled library.new (line.now ∷ ls)) }
+    ensures described { AreDescribed streams.old.items library.old → OnOk result (AreDescribed streams.new.items library.new) }
     ensures stops { (ls : List (List ℕ)) → IsFiled library.old ls
         → IfErr result (λ f. BlamesLine f line.now (numbers_of ls)) }
     ensures refused { IfErr result IsOfLine }
@@ -302,37 +327,46 @@ fn load_line<R: Files, M: Allocator + Copy>(
         return Ok(());
     }
     match entry_of(line) {
-        Some((id, path)) => match load_stream(rt, alloc, library, id, path, reason) {
-            Ok(()) => Ok(()),
-            Err(fault) => Err(fault),
-        },
+        Some((id, path)) => {
+            match load_stream(rt, alloc, library, streams, id, path, reason) {
+                Ok(()) => Ok(()),
+                Err(fault) => Err(fault),
+            }
+        }
         None => Err(ListFault::BadList),
     }
 }
 
-/// Files the advertisement of the stream at this path. Where that cannot be opened, the system's reason is kept.
+/// Files the advertisement of the stream at this path, and keeps what the system says of that. Where it cannot be opened, the system's reason
+/// is kept.
 fn load_stream<R: Files, M: Allocator + Copy>(
     rt: &R,
     alloc: M,
     library: &mut AdLibrary<M>,
+    streams: &mut Vec<Metadata, M>,
     id: u16,
     path: &str,
     reason: &mut Option<io::Error>,
 ) -> Result<(), ListFault>
     ensures ok { OnOk result ((known : Option (List ℕ)) × FilesOne known library.old library.new id) }
+    ensures described { OnOk result (length streams.new.items ≡ length streams.old.items + 1) }
     ensures stops { IfErr result (λ f. BlamesStream f (is_some (held library.old id))
         (index_map_len library.old.adverts)) }
     ensures refused { IfErr result IsOfLine }
 {
-    match open_input(rt, path) {
-        Ok((file, _)) => match file_stream(alloc, library, id, file) {
-            Ok(()) => Ok(()),
-            Err(fault) => Err(fault),
-        },
+    let (file, about) = match open_input(rt, path) {
+        Ok(opened) => opened,
         Err(error) => {
             *reason = Some(error);
-            Err(ListFault::File)
+            return Err(ListFault::File);
         }
+    };
+    if streams.push(about).is_err() {
+        return Err(ListFault::OutOfMemory);
+    }
+    match file_stream(alloc, library, id, file) {
+        Ok(()) => Ok(()),
+        Err(fault) => Err(fault),
     }
 }
 

@@ -1,11 +1,12 @@
 //! Where the streams of a run come from and go to: files, the standard streams in bytes, or lines of digits on them.
 
-ghost use Rattle.std.specs.Prelude.{◌≡◌, codes, option_map, true, is_some, Any, IsSome, IfErr, IfOk};
+ghost use Rattle.std.specs.Prelude.{◌≡◌, codes, option_map, true, Any, IfErr, IfOk};
 ghost use Rattle.std.specs.Fs.{file_type, IsDir, IsFile};
-ghost use Rattle.run_ends.specs.Ends.{IsNamed, path_of, name_of, IsOrdinary, AreOpened, IsUnopened};
+ghost use Rattle.std.specs.IoError.{error_kind};
+ghost use Rattle.run_ends.specs.Ends.{IsNamed, path_of, name_of, IsOrdinary};
 
 use std::fs::{self, Metadata, OpenFile};
-use std::io;
+use std::io::{self, ErrorKind};
 use std::os::unix::fs::MetadataExt;
 use std::rt::Files;
 
@@ -65,17 +66,6 @@ pub enum Unopened {
     Output(io::Error),
 }
 
-/// The files of a run, where its ends are files.
-#[derive(Drop)]
-pub struct OpenedEnds<F> {
-    /// The file that is read.
-    pub input: Option<F>,
-    /// The file that is written; what it held is gone.
-    pub output: Option<F>,
-    /// Whether the input may pause, as a pipe does: it is no ordinary file.
-    pub is_live: bool,
-}
-
 /// Opens a file to read, with what the system says of it.
 ///
 /// # Errors
@@ -87,7 +77,7 @@ pub fn open_input<R: Files>(rt: &R, path: &str) -> io::Result<(R::File, Metadata
     let file = fs::open(rt, path)?;
     let about = file.metadata()?;
     if about.is_dir() {
-        return Err(io::Error::from(io::ErrorKind::IsADirectory));
+        return Err(io::Error::from(ErrorKind::IsADirectory));
     }
     Ok((file, about))
 }
@@ -107,6 +97,20 @@ fn is_one_of(standing: &Metadata, others: &[Option<&Metadata>]) -> bool
     others.iter().any(|other| other.is_some_and(|other| is_same_file(other, standing)))
 }
 
+/// Likewise, among files of which each is known.
+fn is_among(standing: &Metadata, files: &[Metadata]) -> bool
+    ensures { result ≡ true → Any (λ about. IsFile (file_type about)) files.now }
+{
+    files.iter().any(|about| is_same_file(about, standing))
+}
+
+/// Why a file is not made that is one of the run's others.
+fn another_file() -> io::Error
+    ensures { error_kind result ≡ ErrorKind.Other }
+{
+    io::Error::other("it is another file of the run")
+}
+
 /// Makes a file to write anew, unless it is one of the other files of the run, which are read or written too.
 ///
 /// # Errors
@@ -120,54 +124,25 @@ pub fn create_beside<R: Files>(
     if let Ok(standing) = fs::metadata(rt, path)
         && is_one_of(&standing, others)
     {
-        return Err(io::Error::other("it is another file of the run"));
+        return Err(another_file());
     }
     fs::create(rt, path)
 }
 
-/// Makes the file of an output anew, where the end is one.
+/// Refuses to make a file to write anew where it stands and is one of these, which were read and are closed: what they held would be lost.
+/// Nothing is made or emptied here.
 ///
 /// # Errors
 ///
-/// As for [`create_beside`], with the input.
-fn open_output<R: Files>(
-    rt: &R,
-    output: End<'_>,
-    input: Option<&Metadata>,
-) -> io::Result<Option<R::File>>
-    ensures opened { IfOk result (λ file. is_some file ≡ is_some (path_of output.entry)) }
-    ensures unopened { IfErr result (λ _. IsSome (path_of output.entry)) }
+/// `Other` where it is one of them, an ordinary file by whatever name.
+pub fn spare<R: Files>(rt: &R, path: &str, read: &[Metadata]) -> io::Result<()>
+    ensures ordinary { IfErr result (λ _. Any (λ about. IsFile (file_type about)) read.now) }
+    ensures kind { IfErr result (λ error. error_kind error ≡ ErrorKind.Other) }
 {
-    match output.path() {
-        Some(path) => create_beside(rt, path, &[input]).map(Some),
-        None => Ok(None),
+    if let Ok(standing) = fs::metadata(rt, path)
+        && is_among(&standing, read)
+    {
+        return Err(another_file());
     }
-}
-
-/// Opens the files of a run. Nothing is opened for writing before the input is found good, and not where both are the same file.
-///
-/// # Errors
-///
-/// `Input` where the input is a file and could not be opened, as for [`open_input`]; `Output` where the output is a file and could not
-/// be made, as for [`create_beside`].
-pub fn open_ends<R: Files>(
-    rt: &R,
-    input: End<'_>,
-    output: End<'_>,
-) -> Result<OpenedEnds<R::File>, Unopened>
-    ensures opened { IfOk result (AreOpened input.entry output.entry) }
-    ensures unopened { IfErr result (λ end. IsUnopened end input.entry output.entry) }
-{
-    let opened = match input.path() {
-        Some(path) => Some(open_input(rt, path).map_err(Unopened::Input)?),
-        None => None,
-    };
-    let about = opened.as_ref().map(|(_, about)| about);
-    let is_live = !about.is_some_and(|about| about.is_file());
-    let output = open_output(rt, output, about).map_err(Unopened::Output)?;
-    Ok(OpenedEnds {
-        input: opened.map(|(file, _)| file),
-        output,
-        is_live,
-    })
+    Ok(())
 }

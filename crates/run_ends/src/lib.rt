@@ -11,5 +11,5 @@ mod flushing;
 mod reads;
 
 pub use attended::Attended;
-pub use ends::{End, OpenedEnds, Unopened, create_beside, open_ends, open_input};
+pub use ends::{End, Unopened, create_beside, open_input, spare};
 pub use flushing::{finish, finish_behind, finish_buffer};

@@ -1,21 +1,23 @@
 -- Lines of a list of services, read and loaded one after another.
-use Rattle.std.proofs.Common.{◌≡◌, ◌≢◌, ℕ, suc, ◌+◌, ◌-◌, ◌^◌, arith, List, [], ◌∷◌, ◌++◌, length, reverse, true, false, ◌&&◌, ◌==◌, refl, sym, ap, ◌∙◌, subst, append_assoc, ◌⊎◌, inl, inr, Option, None, Some, Result, Ok, Err, OnOk, IfOk, IfSome}
+use Rattle.std.proofs.Common.{◌≡◌, ◌≢◌, ℕ, suc, ◌+◌, ◌-◌, ◌^◌, arith, List, [], ◌∷◌, ◌++◌, length, reverse, false, ◌&&◌, ◌==◌, refl, sym, ap, ◌∙◌, subst, append_assoc, ◌⊎◌, inl, inr, Option, None, Some, Result, Ok, Err, OnOk, IfOk, IfSome}
 use Rattle.std.specs.Io.KnownBytes.{Consumes}
-use Rattle.std.specs.Prelude.{min}
+use Rattle.std.specs.Prelude.{min, sum_by}
+use Rattle.std.specs.declared.fs.attrs.Metadata.{Metadata}
 use Rattle.psi_section.specs.Assembling.{capped}
 use Rattle.ad_lists.specs.declared.list.ListFault.{ListFault}
 use Rattle.ad_lists.specs.declared.list.ListFault.TheVariants as adverts
 use Rattle.std.proofs.lemmas.List.{append-nil, reverse-append, length-reverse}
+use Rattle.std.proofs.lemmas.List.Sums.{fold-append}
 use Rattle.psi_tables.specs.declared.config.Config.{Config}
 use Rattle.ad_library.specs.declared.library.AdLibrary.{AdLibrary}
-use Rattle.ad_lists.specs.Lists.{is_blank, is_line, text_of, number_behind, EndsLine}
+use Rattle.ad_lists.specs.Lists.{is_blank, is_line, text_of, number_behind, EndsLine, count_of, AreDescribed}
 use Rattle.ad_lists.proofs.ListLemmas.{line_push}
 use Rattle.ts_packet.specs.declared.tally.Tally.{Tally}
 use Rattle.ts_packet.specs.Transfers.{LastMovedNone}
 use Rattle.chain_services.specs.Refused.{IsRefused}
 use Rattle.chain_services.specs.declared.fault.ServiceFault.{ServiceFault}
 use Rattle.chain_services.specs.declared.fault.ServiceFault.TheVariants as service_faults
-use Rattle.service_lists.specs.Lists.{IsServiceOf, IsLoaded, AreConfigs, AreServices, IsRead, AreListed, BlamesLine, Blames, TellsLine, StopsAt, ListBlamed, IsOfServices, of_services}
+use Rattle.service_lists.specs.Lists.{IsServiceOf, IsLoaded, AreConfigs, AreServices, AreAllDescribed, IsRead, AreListed, BlamesLine, Blames, TellsLine, StopsAt, ListBlamed, IsOfServices, of_services}
 use Rattle.service_lists.specs.declared.loading.Loading.{Loading}
 use Rattle.service_lists.specs.declared.fault.ServicesFault.{ServicesFault}
 use Rattle.service_lists.specs.declared.fault.ServicesFault.TheVariants.{BadLine, Config as BadConfig, File, Adverts, Services, Io, Turns, OutOfMemory}
@@ -46,6 +48,12 @@ pub one_more : {A : Type 0} (cs ds : List Config) (ls ks : List (AdLibrary A)) (
 one_more cs ds ls ks c l path line lines blank is loaded e d h =
     inr (blank, (c, reverse cs, l, reverse ls, path, ap reverse e ∙ reverse-append cs (c ∷ []), ap reverse d ∙ reverse-append ls (l ∷ []), is, loaded, h))
 
+-- so of what is described
+pub one_more_described : {A : Type 0} (files more streams : List Metadata) (ls ks : List (AdLibrary A)) (l : AdLibrary A) → length more ≡ length files + (1 + length streams)
+    → AreDescribed streams l → ks ≡ ls ++ l ∷ [] → AreAllDescribed files ls → AreAllDescribed more ks
+one_more_described files more streams ls ks l many d e h =
+    many ∙ (λ i. h i + (1 + d i)) ∙ sym (fold-append (λ a x. a + (1 + count_of x)) 0 ls (l ∷ [])) ∙ ap (sum_by (λ x. 1 + count_of x)) (sym e)
+
 -- ---- the text
 
 same_services : {A : Type 0} (cs ds : List Config) (ls ks : List (AdLibrary A)) (lines : List (List ℕ)) → ds ≡ cs → ks ≡ ls
@@ -55,14 +63,15 @@ same_services cs ds ls ks lines e d h =
 
 -- a byte more of a line
 pub pushed : {A : Type 0} (old new : Loading A) (b : ℕ) (text : List ℕ) → (b == 10) ≡ false → new.configs.items ≡ old.configs.items → new.libraries.items ≡ old.libraries.items
-    → new.line.items ≡ old.line.items ++ b ∷ [] → new.number ≡ old.number → IsRead old text → IsRead new (text ++ b ∷ [])
-pushed old new b text other configs libraries items number h = record {
+    → new.files.items ≡ old.files.items → new.line.items ≡ old.line.items ++ b ∷ [] → new.number ≡ old.number → IsRead old text → IsRead new (text ++ b ∷ [])
+pushed old new b text other configs libraries files items number h = record {
   before = h.before;
   number_is = number ∙ h.number_is;
   text_is = ap (λ t. t ++ b ∷ []) h.text_is ∙ append_assoc (text_of h.before) old.line.items (b ∷ []) ∙ ap (λ x. text_of h.before ++ x) (sym items);
   line = ap is_line items ∙ line_push old.line.items b h.line other;
   lines = h.lines;
   services = same_services old.configs.items new.configs.items old.libraries.items new.libraries.items h.before configs libraries h.services;
+  described = ap length files ∙ h.described ∙ ap (sum_by (λ l. 1 + count_of l)) (sym libraries);
 }
 
 one_more_line : (n : ℕ) → min (capped (1 + n) + 1) (2 ^ 64 - 1) ≡ capped (1 + suc n)
@@ -70,8 +79,9 @@ one_more_line n = omega arith
 
 -- the end of a line
 pub ended : {A : Type 0} (old new : Loading A) (b : ℕ) (text : List ℕ) → b ≡ 10 → new.line.items ≡ [] → new.number ≡ min (old.number + 1) (2 ^ 64 - 1)
-    → (h : IsRead old text) → AreServices (reverse new.configs.items) (reverse new.libraries.items) (old.line.items ∷ h.before) → IsRead new (text ++ b ∷ [])
-ended old new b text end items number h services = record {
+    → (h : IsRead old text) → AreServices (reverse new.configs.items) (reverse new.libraries.items) (old.line.items ∷ h.before) → AreAllDescribed new.files.items new.libraries.items
+    → IsRead new (text ++ b ∷ [])
+ended old new b text end items number h services described = record {
   before = old.line.items ∷ h.before;
   number_is = number ∙ ap (λ n. min (n + 1) (2 ^ 64 - 1)) h.number_is ∙ one_more_line (length h.before);
   text_is = (λ i. h.text_is i ++ end i ∷ []) ∙ append_assoc (text_of h.before) old.line.items (10 ∷ []) ∙ sym (append-nil (text_of (old.line.items ∷ h.before)))
@@ -79,6 +89,7 @@ ended old new b text end items number h services = record {
   line = ap is_line items;
   lines = λ i. h.line i && h.lines i;
   services = services;
+  described = described;
 }
 
 -- the end of the list, behind which the end of the last line may be missing
@@ -94,15 +105,16 @@ listed old new text h services = record {
 }
 
 -- nothing was read
-pub nothing_read : {A : Type 0} (l : Loading A) → l.configs.items ≡ [] → l.libraries.items ≡ [] → l.line.items ≡ []
+pub nothing_read : {A : Type 0} (l : Loading A) → l.configs.items ≡ [] → l.libraries.items ≡ [] → l.files.items ≡ [] → l.line.items ≡ []
     → l.number ≡ 1 → IsRead l []
-nothing_read l configs libraries items number = record {
+nothing_read l configs libraries files items number = record {
   before = [];
   number_is = number;
   text_is = sym items;
   line = ap is_line items;
   lines = refl;
   services = (ap reverse configs, ap reverse libraries);
+  described = ap length files ∙ ap (sum_by (λ l. 1 + count_of l)) (sym libraries);
 }
 
 -- ---- where a list stops

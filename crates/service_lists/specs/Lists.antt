@@ -1,8 +1,9 @@
 -- Lists of services: which text is one, what is loaded from it, and why one is not. Lines stand newest first. A line ends with a line feed,
 -- which may be missing behind the last one.
-use Rattle.std.specs.Prelude.{◌≡◌, ◌≢◌, ◌⊎◌, ℕ, ◌^◌, List, [], ◌∷◌, ◌++◌, length, reverse, true, false, ◌&&◌, cond, nat_lt, Option, None, Some}
+use Rattle.std.specs.Prelude.{◌≡◌, ◌≢◌, ◌⊎◌, ℕ, ◌+◌, ◌^◌, List, [], ◌∷◌, ◌++◌, length, reverse, sum_by, true, false, ◌&&◌, cond, nat_lt, Option, None, Some}
 use Rattle.std.specs.List.{list_all, before_first, after_first}
 use Rattle.std.specs.Str.{is_utf8}
+use Rattle.std.specs.declared.fs.attrs.Metadata.{Metadata}
 use Rattle.ts_packet.specs.declared.tally.Tally.{Tally}
 use Rattle.ts_packet.specs.Transfers.{WentWell, LastMovedNone, LastFailed, TookTurns}
 use Rattle.decimal_numbers.specs.Numbers.{number_below}
@@ -13,7 +14,7 @@ use Rattle.chain_services.specs.declared.fault.ServiceFault.TheVariants as servi
 use Rattle.chain_services.specs.Refused.{IsRefused}
 use Rattle.chain_services.specs.Runs.{ServicesStandFor}
 use Rattle.ad_library.specs.declared.library.AdLibrary.{AdLibrary}
-use Rattle.ad_lists.specs.Lists.{is_blank, is_space, is_line, text_of, number_behind, EndsLine, IsListed}
+use Rattle.ad_lists.specs.Lists.{is_blank, is_space, is_line, text_of, number_behind, EndsLine, count_of, IsListed}
 use Rattle.ad_lists.specs.declared.list.ListFault.TheVariants as adverts
 use Rattle.service_lists.specs.declared.fault.ServicesFault.{ServicesFault}
 use Rattle.service_lists.specs.declared.fault.ServicesFault.TheVariants.{BadLine, Config as BadConfig, File, Adverts, Services, Io, Turns, OutOfMemory}
@@ -105,6 +106,10 @@ AreServices {A} configs libraries (line ∷ lines) = ((is_blank line ≡ true) �
     ⊎ ((is_blank line ≡ false) × ((c : Config) × (cs : List Config) × (l : AdLibrary A) × (ls : List (AdLibrary A)) × (path : List ℕ)
     × (configs ≡ c ∷ cs) × (libraries ≡ l ∷ ls) × IsServiceOf c path line × IsLoaded l × AreServices cs ls lines))
 
+-- each file of these libraries is described: for each library there is one description of its list, and one for each of its advertisements
+abbrev pub AreAllDescribed : {A : Type 0} → List Metadata → List (AdLibrary A) → Type 0
+AreAllDescribed files libraries = length files ≡ sum_by (λ l. 1 + count_of l) libraries
+
 -- the list was read so far
 pub record IsRead {A : Type 0} (loading : Loading A) (text : List ℕ) : Type 0 where
   pub before : List (List ℕ)
@@ -113,6 +118,7 @@ pub record IsRead {A : Type 0} (loading : Loading A) (text : List ℕ) : Type 0 
   pub line : is_line loading.line.items ≡ true
   pub lines : list_all is_line before ≡ true
   pub services : AreServices (reverse loading.configs.items) (reverse loading.libraries.items) before
+  pub described : AreAllDescribed loading.files.items loading.libraries.items
 
 -- the services of a list: those of its lines, in order
 pub record AreListed {A : Type 0} (configs : List Config) (libraries : List (AdLibrary A)) (text : List ℕ) : Type 0 where

@@ -2,7 +2,7 @@
 
 ghost use Rattle.std.specs.Prelude.{◌≡◌, ℕ, List, [], length, IfOk, IfErr, IfSome, OnOk};
 ghost use Rattle.ts_packet.specs.Transfers.{LastMovedNone};
-ghost use Rattle.service_lists.specs.Lists.{IsRead, AreListed, AreReady, StopsAt, ListBlamed, IsOfServices, of_services};
+ghost use Rattle.service_lists.specs.Lists.{IsRead, AreListed, AreReady, AreAllDescribed, StopsAt, ListBlamed, IsOfServices, of_services};
 
 use crate::fault::{ServicesFault, Unloaded};
 use crate::loading::Loading;
@@ -33,6 +33,7 @@ pub fn load_services<R: Files, M: Allocator + Copy, S: Source>(
     ensures lists { IfOk result (λ l. (text : List ℕ) × IfSome (S.remaining list.old) (λ bs. bs ≡ text)
         × AreListed l.configs.items l.libraries.items text) }
     ensures ready { IfOk result AreReady }
+    ensures described { IfOk result (λ l. AreAllDescribed l.files.items l.libraries.items) }
     ensures stops { IfErr result (λ u. IfSome (S.remaining list.old) (StopsAt u.fault u.line)) }
     ensures blamed { IfErr result (λ u. ListBlamed u.fault (S.counts list.old) (S.counts list.new)) }
     ensures ended { OnOk result (LastMovedNone (S.counts list.old) (S.counts list.new)) }
@@ -67,6 +68,8 @@ fn services_of<M: Allocator + Copy>(
     ensures lists { (text : List ℕ) → AreListed loading.configs.items loading.libraries.items text
         → IfOk result (λ l. AreListed l.configs.items l.libraries.items text) }
     ensures ready { IfOk result AreReady }
+    ensures described { AreAllDescribed loading.files.items loading.libraries.items
+        → IfOk result (λ l. AreAllDescribed l.files.items l.libraries.items) }
     ensures stops { (text : List ℕ) → AreListed loading.configs.items loading.libraries.items text
         → IfErr result (λ u. StopsAt u.fault u.line text) }
     ensures refused { IfErr result (λ u. IsOfServices u.fault) }
@@ -74,6 +77,7 @@ fn services_of<M: Allocator + Copy>(
     let Loading {
         configs,
         libraries,
+        files,
         ..
     } = loading;
     match Services::new_in(alloc, configs.as_slice()) {
@@ -81,6 +85,7 @@ fn services_of<M: Allocator + Copy>(
             configs,
             services,
             libraries,
+            files,
         }),
         Err(fault) => Err(Unloaded::of_list(refused(fault))),
     }
@@ -96,6 +101,7 @@ fn read_to_end<R: Files, M: Allocator + Copy, S: Source>(
     requires { IsRead loading.old [] }
     ensures lists { OnOk result ((text : List ℕ) × IfSome (S.remaining list.old) (λ bs. bs ≡ text)
         × AreListed loading.new.configs.items loading.new.libraries.items text) }
+    ensures described { OnOk result (AreAllDescribed loading.new.files.items loading.new.libraries.items) }
     ensures stops { IfErr result (λ u. IfSome (S.remaining list.old) (StopsAt u.fault u.line)) }
     ensures blamed { IfErr result (λ u. ListBlamed u.fault (S.counts list.old) (S.counts list.new)) }
     ensures ended { OnOk result (LastMovedNone (S.counts list.old) (S.counts list.new)) }

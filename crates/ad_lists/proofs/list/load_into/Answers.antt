@@ -49,3 +49,6 @@ loop-turn-preserved g c =
         read = (text, Consumes-kept _ _ _ _ used w.in-Err-Interrupted.ensures.bytes, rw w.loading-is h);
       }
     ]
+
+pub returns-in-Ok-eq0-clause-described : goal.returns-in-Ok-eq0-clause-described
+returns-in-Ok-eq0-clause-described g c = let (text, used, h) = c.loop-turn.invariant.read in c.finish.ensures.described text h

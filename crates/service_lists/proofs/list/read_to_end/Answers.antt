@@ -55,3 +55,6 @@ returns-clause-stops g c =
     let (text, used, h) = c.loop-turn.invariant.read in
     rw c.of_list-2.ensures.fault (said_on (StopsAt Turns c.of_list-2.result.line) _ _ text used
     (λ more. stops c.loop-turn.loading Turns c.of_list-2.result.line text more h tt c.of_list-2.ensures.line))
+
+pub returns-in-Ok-eq0-clause-described : goal.returns-in-Ok-eq0-clause-described
+returns-in-Ok-eq0-clause-described g c = let (text, used, h) = c.loop-turn.invariant.read in c.load_line.ensures.described h.described

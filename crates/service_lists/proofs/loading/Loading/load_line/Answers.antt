@@ -1,8 +1,8 @@
-use Rattle.std.proofs.Common.{◌≡◌, ℕ, List, ◌∷◌, false, reverse, sym, subst, rules}
+use Rattle.std.proofs.Common.{◌≡◌, false, sym, subst, rules}
 use Rattle.ts_packet.proofs.Cases.{if_err_more}
 use Rattle.ad_lists.specs.Lists.{is_blank}
 use Rattle.service_lists.specs.Lists.{IsServiceOf, BlamesLine}
-use Rattle.service_lists.proofs.LoadingLemmas.{of_file, of_memory, of_adverts, both_more, one_more}
+use Rattle.service_lists.proofs.LoadingLemmas.{of_file, of_memory, of_adverts, both_more, one_more, one_more_described}
 use Rattle.service_lists.proofs.loading.Loading.load_line.Goals as goal
 
 pub returns-in-Err-open_input-clause-stops : goal.returns-in-Err-open_input-clause-stops
@@ -34,3 +34,8 @@ returns-clause-stops g c =
     let blank : is_blank line ≡ false = search rules in
     let is : IsServiceOf c.in-Ok.service.config c.in-Ok.service.adverts.now line = search rules in
     of_adverts c.in-Err-load_adverts.unloaded.fault c.in-Ok.service.config c.in-Ok.service.adverts.now line blank is c.in-Err-load_adverts.ensures.fault
+
+pub returns-in-Ok-load_adverts-clause-described : goal.returns-in-Ok-load_adverts-clause-described
+returns-in-Ok-load_adverts-clause-described g c = λ h.
+    both_more c.add.result (λ many e. one_more_described c.args.self.now.files.items c.add.new.self.files.items c.in-Ok-load_adverts.streams.items c.args.self.now.libraries.items
+    c.add.new.self.libraries.items c.in-Ok-load_adverts.library many c.in-Ok-load_adverts.ensures.described e h) c.add.ensures.files c.add.ensures.libraries

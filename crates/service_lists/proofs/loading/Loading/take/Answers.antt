@@ -13,7 +13,7 @@ pub returns-in-Ok-load_line-clause-ok : goal.returns-in-Ok-load_line-clause-ok
 returns-in-Ok-load_line-clause-ok g c = λ text h.
     let end : c.args.byte ≡ 10 = search rules in
     let number : c.load_line.new.self.number ≡ c.args.self.now.number = c.in-Ok-load_line.ensures.number in
-    ended c.args.self.now _ c.args.byte text end c.clear.ensures.items (grind (arith, number)) h (c.in-Ok-load_line.ensures.ok h.before h.services)
+    ended c.args.self.now _ c.args.byte text end c.clear.ensures.items (grind (arith, number)) h (c.in-Ok-load_line.ensures.ok h.before h.services) (c.in-Ok-load_line.ensures.described h.described)
 
 pub returns-in-Err-load_line-clause-stops : goal.returns-in-Err-load_line-clause-stops
 returns-in-Err-load_line-clause-stops g c = λ text h more.
