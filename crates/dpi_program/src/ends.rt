@@ -1,6 +1,6 @@
 //! The ends of a run: the network that it reads, where its packets go, and where the lines of its log go.
 
-ghost use Rattle.std.specs.Prelude.{◌≡◌, None, true, false, is_some, map, option_copied, IfOk, IfErr, IsSomeAnd};
+ghost use Rattle.std.specs.Prelude.{◌≡◌, None, true, false, is_some, map, option_copied, Any, IfOk, IfErr, IsSome, IsSomeAnd};
 ghost use Rattle.std.specs.Fs.{file_type, IsFile};
 ghost use Rattle.run_ends.specs.Ends.{path_of};
 ghost use Rattle.dpi_program.specs.Ends.{IsOpened, IsMade, IsLogMade};
@@ -8,7 +8,7 @@ ghost use Rattle.dpi_program.specs.Ends.{IsOpened, IsMade, IsLogMade};
 use passages::fault::ProgramFault;
 use passages::running::stopped;
 use passages::tell::{Side, Stopped};
-use run_ends::{End, create_beside, open_input};
+use run_ends::{End, create_beside, open_input, spare};
 use std::fs::{self, Metadata};
 use std::io::{self, Write};
 use std::rt::Files;
@@ -123,6 +123,52 @@ pub(crate) fn make_output<R: RunFiles>(
     match rt.make_at(path, others) {
         Ok(file) => Ok(file),
         Err(reason) => Err(stopped(ProgramFault::File, Side::Writing, Some(reason))),
+    }
+}
+
+/// Refuses an end that is one of these files, as [`spare`] does.
+///
+/// # Errors
+///
+/// `File` where it is one, on this side.
+fn spare_end<R: Files>(rt: &R, end: End<'_>, side: Side, read: &[Metadata]) -> Result<(), Stopped>
+    ensures file { IfErr result (λ _. IsSome (path_of end.entry)) }
+    ensures ordinary { IfErr result (λ _. Any (λ about. IsFile (file_type about)) read.now) }
+    ensures fault { IfErr result (λ stopped. stopped.fault ≡ ProgramFault.File) }
+    ensures side { IfErr result (λ stopped. stopped.side ≡ side) }
+    ensures unflushed { IfErr result (λ stopped. stopped.is_flushed ≡ false) }
+{
+    let Some(path) = end.path() else {
+        return Ok(());
+    };
+    match spare(rt, path, read) {
+        Ok(()) => Ok(()),
+        Err(reason) => Err(stopped(ProgramFault::File, side, Some(reason))),
+    }
+}
+
+/// The ends that a run is yet to make.
+#[derive(Clone, Copy)]
+pub(crate) struct Outputs<'a> {
+    /// Where the packets go, or the script of a plan.
+    pub(crate) output: End<'a>,
+    /// Where the lines of the log go.
+    pub(crate) events: End<'a>,
+}
+
+impl Outputs<'_> {
+    /// Refuses an output or a log that would be made over one of these files, which a list names: they were read and are closed. Nothing is
+    /// made here.
+    ///
+    /// # Errors
+    ///
+    /// `File` where one would, that of the log first, which is made first.
+    pub(crate) fn spare<R: Files>(&self, rt: &R, read: &[Metadata]) -> Result<(), Stopped>
+        ensures fault { IfErr result (λ stopped. stopped.fault ≡ ProgramFault.File) }
+        ensures unflushed { IfErr result (λ stopped. stopped.is_flushed ≡ false) }
+    {
+        spare_end(rt, self.events, Side::Telling, read)?;
+        spare_end(rt, self.output, Side::Writing, read)
     }
 }
 

@@ -10,7 +10,7 @@ ghost use Rattle.dpi_program.specs.Inputs.{IsAskerAt, AsksElsewhere, IsLibraryIf
 ghost use Rattle.dpi_program.specs.Commands.{InjectsBetween, InjectsToFile, InjectsOnAirBetween, InjectsOnAirToFile};
 
 use crate::counting::air_counts;
-use crate::ends::{LogEnd, Network, RunFiles, make_output, open_log, open_network};
+use crate::ends::{LogEnd, Network, Outputs, RunFiles, make_output, open_log, open_network};
 use crate::sharing::Sharing;
 use crate::splicing::open_library;
 use crate::telling::{hearing_of, overheard_of, tell_fault, telling_of, warnings_of, with_late};
@@ -303,6 +303,7 @@ where
 fn open_adverts<R, I>(
     rt: &R,
     adverts: Option<End<'_>>,
+    outputs: Outputs<'_>,
     input: &mut I,
 ) -> Result<(Option<AdLibrary>, Option<Metadata>), Stopped>
 where
@@ -316,7 +317,7 @@ where
     let Some(adverts) = adverts else {
         return Ok((None, None));
     };
-    match open_library(rt, adverts, input) {
+    match open_library(rt, adverts, outputs, input) {
         Ok((library, list)) => Ok((Some(library), list)),
         Err(stopped) => Err(stopped),
     }
@@ -334,7 +335,7 @@ struct InjectInputs<F, W, L> {
     list: Option<Metadata>,
 }
 
-/// Opens the network, then the script or the port, and then loads the list with all its advertisements.
+/// Opens the network, then the script or the port, and then loads the list with all its advertisements; the outputs are none of their streams.
 fn open_inputs<R, I, W>(
     rt: &R,
     options: &InjectOptions<'_>,
@@ -351,7 +352,11 @@ where
 {
     let network = open_network(rt, options.network)?;
     let (asker, script) = open_asker(rt, options.asking, input, replies)?;
-    let (library, list) = open_adverts(rt, options.adverts, input)?;
+    let outputs = Outputs {
+        output: options.output,
+        events: options.events,
+    };
+    let (library, list) = open_adverts(rt, options.adverts, outputs, input)?;
     Ok(InjectInputs {
         network,
         asker,

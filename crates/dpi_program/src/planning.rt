@@ -6,7 +6,7 @@ ghost use Rattle.run_ends.specs.Ends.{path_of};
 ghost use Rattle.dpi_program.specs.Planning.{AreBreaksOf, AreBreaksAt, HasFed, IsTimelineBy, IsTimelineAt};
 ghost use Rattle.dpi_program.specs.Planning.{IsScriptWritten, PlansFor, PlansBetween};
 
-use crate::ends::{RunFiles, make_output};
+use crate::ends::{Outputs, RunFiles, make_output};
 use crate::splicing::open_library;
 use ad_library::AdLibrary;
 use break_lists::{BreaksFault, NumberedLine, RefusedLine, read_breaks};
@@ -317,7 +317,11 @@ fn plan_ends<R: RunFiles + AllocGlobal, I: Read, O: Write>(
         (I.remaining input.old)) }
 {
     let (list, breaks) = open_breaks(rt, options.breaks, input)?;
-    let (library, adverts) = match open_library(rt, options.adverts, input) {
+    let outputs = Outputs {
+        output: options.script,
+        events: End::Lines,
+    };
+    let (library, adverts) = match open_library(rt, options.adverts, outputs, input) {
         Ok(opened) => opened,
         Err(stopped) => return Err(PlanFault::Program(stopped.fault)),
     };

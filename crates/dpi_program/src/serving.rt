@@ -14,7 +14,7 @@ ghost use Rattle.dpi_program.specs.Inputs.{AreServicesOf, AreServicesAt, AreServ
 ghost use Rattle.dpi_program.specs.Commands.{ServesBetween, ServesToFile, ServesOnAirBetween, ServesOnAirToFile};
 
 use crate::counting::air_counts;
-use crate::ends::{LogEnd, Network, RunFiles, make_output, open_log, open_network};
+use crate::ends::{LogEnd, Network, Outputs, RunFiles, make_output, open_log, open_network};
 use crate::injecting::open_asker;
 use crate::sharing::Sharing;
 use crate::telling::{hearing_of, overheard_of, tell_fault, telling_of, warnings_of, with_late};
@@ -94,11 +94,12 @@ fn unserved(unloaded: Unloaded, reading: Option<io::Error>) -> Stopped
     }
 }
 
-/// Loads the list of services that a reader gives.
+/// Loads the list of services that a reader gives, and refuses outputs that are one of its lists of advertisements, or of their streams.
 fn services_from<F: Files, R: Read + Drop>(
     rt: &F,
     alloc: Global,
     reader: R,
+    outputs: Outputs<'_>,
 ) -> Result<ServiceList, Stopped>
     ensures ready { IfOk result AreReady }
     ensures loaded { IfOk result (λ list. AreServicesOf list (R.remaining reader)) }
@@ -106,15 +107,20 @@ fn services_from<F: Files, R: Read + Drop>(
 {
     let mut list = Device::new(Attended::new(reader));
     match load_services(rt, alloc, &mut list) {
-        Ok(services) => Ok(services),
+        Ok(services) => {
+            outputs.spare(rt, services.files.as_slice())?;
+            Ok(services)
+        }
         Err(unloaded) => Err(unserved(unloaded, list.into_inner().into_reason())),
     }
 }
 
-/// Loads the list of services that the options name, and answers where it is a file what the system says of that.
+/// Loads the list of services that the options name, and answers where it is a file what the system says of that. An output that is one of the
+/// files that the list names, or that those do, is refused here, before any is made.
 fn open_services<R, I>(
     rt: &R,
     services: End<'_>,
+    outputs: Outputs<'_>,
     input: &mut I,
 ) -> Result<(ServiceList, Option<Metadata>), Stopped>
 where
@@ -127,10 +133,10 @@ where
     ensures unflushed { IfErr result (λ stopped. stopped.is_flushed ≡ false) }
 {
     let Some(path) = services.path() else {
-        return Ok((services_from(rt, rt.alloc(), input)?, None));
+        return Ok((services_from(rt, rt.alloc(), input, outputs)?, None));
     };
     match rt.open_at(path) {
-        Ok((file, about)) => Ok((services_from(rt, rt.alloc(), file)?, Some(about))),
+        Ok((file, about)) => Ok((services_from(rt, rt.alloc(), file, outputs)?, Some(about))),
         Err(reason) => Err(stopped(ProgramFault::File, Side::Filing, Some(reason))),
     }
 }
@@ -169,6 +175,7 @@ where
         configs,
         services,
         libraries,
+        files: _,
     } = list;
     let watched = watched_for(is_verbose);
     let passage = Serving {
@@ -311,7 +318,7 @@ struct ServiceInputs<F, W, L> {
     listed: Option<Metadata>,
 }
 
-/// Opens the network, then the script or the port, and then loads the list.
+/// Opens the network, then the script or the port, and then loads the list; the outputs are none of the files that it names.
 fn open_inputs<R, I, W>(
     rt: &R,
     options: &ServicesOptions<'_>,
@@ -329,7 +336,11 @@ where
 {
     let network = open_network(rt, options.network)?;
     let (asker, script) = open_asker(rt, options.asking, input, replies)?;
-    let (list, listed) = open_services(rt, options.services, input)?;
+    let outputs = Outputs {
+        output: options.output,
+        events: options.events,
+    };
+    let (list, listed) = open_services(rt, options.services, outputs, input)?;
     Ok(ServiceInputs {
         network,
         asker,

@@ -14,7 +14,7 @@ ghost use Rattle.dpi_program.specs.Commands.{SplicesBetween, SplicesToFile, Spli
 ghost use Rattle.dpi_program.specs.Commands.{SplicesOnAirBetween, SplicesOnAirToFile};
 
 use crate::counting::air_counts;
-use crate::ends::{LogEnd, Network, RunFiles, make_output, open_log, open_network};
+use crate::ends::{LogEnd, Network, Outputs, RunFiles, make_output, open_log, open_network};
 use crate::sharing::Sharing;
 use crate::telling::{tell_fault, telling_of, warnings_of};
 use ad_library::AdLibrary;
@@ -78,11 +78,12 @@ fn unlisted(
     told
 }
 
-/// Loads the list that a reader gives.
+/// Loads the list that a reader gives, and refuses outputs that are one of its streams.
 fn library_from<F: Files, R: Read + Drop>(
     rt: &F,
     alloc: Global,
     reader: R,
+    outputs: Outputs<'_>,
 ) -> Result<AdLibrary, Stopped>
     ensures loaded { IfOk result (λ library. IsLibraryOf library (R.remaining reader)) }
     ensures unflushed { IfErr result (λ stopped. stopped.is_flushed ≡ false) }
@@ -90,7 +91,11 @@ fn library_from<F: Files, R: Read + Drop>(
     let mut list = Device::new(Attended::new(reader));
     let mut loading = Loading::new_in(alloc);
     match load_into(rt, alloc, &mut loading, &mut list) {
-        Ok(()) => Ok(loading.into_library()),
+        Ok(()) => {
+            let (library, streams) = loading.into_parts();
+            outputs.spare(rt, streams.as_slice())?;
+            Ok(library)
+        }
         Err(fault) => {
             let reading = list.into_inner().into_reason();
             Err(unlisted(alloc, fault, loading, reading))
@@ -98,10 +103,12 @@ fn library_from<F: Files, R: Read + Drop>(
     }
 }
 
-/// Loads the list that the options name, and answers where it is a file what the system says of that.
+/// Loads the list that the options name, and answers where it is a file what the system says of that. An output that is one of the streams of
+/// its advertisements is refused here, before any is made.
 pub(crate) fn open_library<R, I>(
     rt: &R,
     adverts: End<'_>,
+    outputs: Outputs<'_>,
     input: &mut I,
 ) -> Result<(AdLibrary, Option<Metadata>), Stopped>
 where
@@ -113,10 +120,10 @@ where
     ensures unflushed { IfErr result (λ stopped. stopped.is_flushed ≡ false) }
 {
     let Some(path) = adverts.path() else {
-        return Ok((library_from(rt, rt.alloc(), input)?, None));
+        return Ok((library_from(rt, rt.alloc(), input, outputs)?, None));
     };
     match rt.open_at(path) {
-        Ok((file, about)) => Ok((library_from(rt, rt.alloc(), file)?, Some(about))),
+        Ok((file, about)) => Ok((library_from(rt, rt.alloc(), file, outputs)?, Some(about))),
         Err(reason) => Err(stopped(ProgramFault::File, Side::Filing, Some(reason))),
     }
 }
@@ -245,7 +252,7 @@ struct SpliceInputs<F> {
     list: Option<Metadata>,
 }
 
-/// Opens the network, and then loads the list with all its advertisements.
+/// Opens the network, and then loads the list with all its advertisements; the outputs are none of their streams.
 fn open_inputs<R, I>(
     rt: &R,
     options: &SpliceOptions<'_>,
@@ -259,7 +266,11 @@ where
     ensures unflushed { IfErr result (λ stopped. stopped.is_flushed ≡ false) }
 {
     let network = open_network(rt, options.network)?;
-    let (library, list) = open_library(rt, options.adverts, input)?;
+    let outputs = Outputs {
+        output: options.output,
+        events: options.events,
+    };
+    let (library, list) = open_library(rt, options.adverts, outputs, input)?;
     Ok(SpliceInputs {
         network,
         library,

@@ -108,7 +108,7 @@ fn put_packet(out: &mut Vec<u8>, pid: u16, section: &[u8], unit: &[u8]) -> Resul
 }
 
 /// PAT, map, and a video unit at time 0.
-fn advert(alloc: Global) -> Result<Vec<u8>, AllocError> {
+pub(crate) fn advert(alloc: Global) -> Result<Vec<u8>, AllocError> {
     let mut out = Vec::new(alloc);
     let pat = [
         0, 0xB0, 0x0D, 0, 1, 0xC1, 0, 0, 0, 1, 0xE0, 0x20, 0xA2, 0xC3, 0x29, 0x41,
@@ -267,12 +267,12 @@ fn each_request_refused(rt: HostRuntime) -> Result<(), Fail> {
         assert!(rt; is_refused(&rt, &heap, text.as_bytes(), 16 * step)?);
     }
     let mut refused: u32 = 0;
-    for step in 0..130 {
+    for step in 0..200 {
         if is_refused(&rt, &heap, text.as_bytes(), 131_072 + 16 * step)? {
             refused = refused.saturating_add(1);
         }
     }
-    assert!(rt; refused > 100 && refused < 130);
+    assert!(rt; refused > 100 && refused < 200);
     fs::remove_file(&rt, path)?;
     Ok(())
 }

@@ -1,6 +1,11 @@
 //! Command lines of `splice` and `run`, and the ends that they name. What packets come out is shown by the vectors of the switch.
 
 use crate::expecting::expect;
+use crate::list_tests::advert;
+use std::net::Net;
+use std::path::PathBuf;
+use std::process::Abort;
+use std::rt::{Env, Files};
 use std::test::Fail;
 use std::{env, fs};
 
@@ -39,6 +44,25 @@ fn run<'a>(network: &'a str, script: &'a str, adverts: &'a str, output: &'a str)
         adverts,
         "--out",
         output,
+    ]
+}
+
+/// The words of `plan` between these ends, without a break.
+fn plan<'a>(network: &'a str, adverts: &'a str, script: &'a str) -> [&'a str; 13] {
+    [
+        "plan",
+        "--network",
+        network,
+        "--program",
+        "1",
+        "--index",
+        "1",
+        "--adverts",
+        adverts,
+        "--breaks",
+        "-",
+        "--script",
+        script,
     ]
 }
 
@@ -144,5 +168,79 @@ fn an_input_is_not_written_over(rt: HostRuntime) -> Result<(), Fail> {
     expect(&rt, &run(network, "-", list, "-"), 1, "fault: BadList\n");
     fs::remove_file(&rt, network)?;
     fs::remove_file(&rt, list)?;
+    Ok(())
+}
+
+/// The path of a temporary file of this name.
+fn named<R: Env + AllocGlobal>(rt: &R, name: &str) -> Result<PathBuf, Fail> {
+    Ok(env::temp_dir(rt)?.join(rt.alloc(), name)?)
+}
+
+/// The words with this output and this log are refused on air and off, and told so.
+fn expect_refused_with<'a, R: Files + Net + AllocGlobal + Abort>(
+    rt: &R,
+    words: &[&'a str],
+    output: &'a str,
+    events: &'a str,
+    told: &str,
+) -> Result<(), Fail> {
+    let mut given = Vec::from_slice(rt.alloc(), words)?;
+    given.extend_from_slice(&["--out", output, "--events", events, "--quiet", "--verbose"])?;
+    expect(rt, given.as_slice(), 1, told);
+    given.push("--on-air")?;
+    expect(rt, given.as_slice(), 1, told);
+    Ok(())
+}
+
+/// The words, on air and off, with the output or the log at this path, are refused since that is a file of the run, and the other one, which
+/// does not stand, is not made.
+fn expect_refused<'a, R: Files + Net + AllocGlobal + Abort>(
+    rt: &R,
+    words: &[&'a str],
+    path: &'a str,
+    other: &'a str,
+) -> Result<(), Fail> {
+    let why = "it is another file of the run\n";
+    let writing = format!(in rt.alloc(); "fault: File\nwriting {path}: {why}")?;
+    expect_refused_with(rt, words, path, other, writing.as_str())?;
+    let telling = format!(in rt.alloc(); "fault: File\nwriting the events {path}: {why}")?;
+    expect_refused_with(rt, words, other, path, telling.as_str())?;
+    assert!(rt; fs::metadata(rt, other).is_err());
+    Ok(())
+}
+
+#[test]
+fn the_stream_of_an_advertisement_is_never_destroyed(rt: HostRuntime) -> Result<(), Fail> {
+    let network = named(&rt, "program_tests_stream_network.ts")?;
+    let network = network.to_str().ok_or("a name")?;
+    let list = named(&rt, "program_tests_stream_list.txt")?;
+    let list = list.to_str().ok_or("a name")?;
+    let stream = named(&rt, "program_tests_stream_ad.ts")?;
+    let stream = stream.to_str().ok_or("a name")?;
+    let link = named(&rt, "program_tests_stream_link.ts")?;
+    let link = link.to_str().ok_or("a name")?;
+    let other = named(&rt, "program_tests_stream_other.ts")?;
+    let other = other.to_str().ok_or("a name")?;
+    let _ = fs::remove_file(&rt, link);
+    let _ = fs::remove_file(&rt, other);
+    let bytes = advert(rt.alloc())?;
+    fs::write(&rt, network, b"".as_slice())?;
+    fs::write(&rt, stream, bytes.as_slice())?;
+    fs::hard_link(&rt, stream, link)?;
+    let text = format!(in rt.alloc(); "\n7 {stream}\n")?;
+    fs::write(&rt, list, text.as_bytes())?;
+    expect_refused(&rt, &splice(network, list, "")[..9], stream, other)?;
+    expect_refused(&rt, &splice(network, list, "")[..9], link, other)?;
+    expect_refused(&rt, &run(network, "-", list, "")[..13], stream, other)?;
+    expect_refused(&rt, &run(network, "-", list, "")[..13], link, other)?;
+    expect(&rt, &plan(network, list, stream), 1, "fault: File\n");
+    expect(&rt, &plan(network, list, link), 1, "fault: File\n");
+    assert!(rt; fs::read(&rt, stream)?.as_slice() == bytes.as_slice());
+    expect(&rt, &splice(network, list, other), 0, "");
+    expect(&rt, &run(network, "-", list, other), 0, "");
+    expect(&rt, &plan(network, list, other), 1, "fault: NoVideo\n");
+    for path in [network, list, stream, link, other] {
+        fs::remove_file(&rt, path)?;
+    }
     Ok(())
 }

@@ -195,6 +195,82 @@ ignored 0
     Ok(())
 }
 
+/// The words of `services` between these inputs, with nothing of what it writes.
+fn reading<'a>(network: &'a str, services: &'a str) -> [&'a str; 7] {
+    [
+        "services",
+        "--network",
+        network,
+        "--services",
+        services,
+        "--script",
+        "-",
+    ]
+}
+
+/// The words with this output and this log are refused on air and off, and told so.
+fn expect_refused_with<'a, R: Files + Net + AllocGlobal + Abort>(
+    rt: &R,
+    words: &[&'a str],
+    output: &'a str,
+    events: &'a str,
+    told: &str,
+) -> Result<(), Fail> {
+    let mut given = Vec::from_slice(rt.alloc(), words)?;
+    given.extend_from_slice(&["--out", output, "--events", events, "--quiet", "--verbose"])?;
+    expect(rt, given.as_slice(), 1, "", told);
+    given.push("--on-air")?;
+    expect(rt, given.as_slice(), 1, "", told);
+    Ok(())
+}
+
+/// The words, on air and off, with the output or the log at this path, are refused since that is a file of the run, and the other one, which
+/// does not stand, is not made.
+fn expect_refused<'a, R: Files + Net + AllocGlobal + Abort>(
+    rt: &R,
+    words: &[&'a str],
+    path: &'a str,
+    other: &'a str,
+) -> Result<(), Fail> {
+    let why = "it is another file of the run\n";
+    let writing = format!(in rt.alloc(); "fault: File\nwriting {path}: {why}")?;
+    expect_refused_with(rt, words, path, other, writing.as_str())?;
+    let telling = format!(in rt.alloc(); "fault: File\nwriting the events {path}: {why}")?;
+    expect_refused_with(rt, words, other, path, telling.as_str())?;
+    assert!(rt; fs::metadata(rt, other).is_err());
+    Ok(())
+}
+
+#[test]
+fn what_a_list_of_services_names_is_never_destroyed(rt: HostRuntime) -> Result<(), Fail> {
+    let network = named(&rt, "service_tests_named_network.ts")?;
+    let network = network.to_str().ok_or("a name")?;
+    let stream = named(&rt, "service_tests_named_advert.ts")?;
+    let stream = stream.to_str().ok_or("a name")?;
+    let adverts = named(&rt, "service_tests_named_list.txt")?;
+    let adverts = adverts.to_str().ok_or("a name")?;
+    let services = named(&rt, "service_tests_named_services.txt")?;
+    let services = services.to_str().ok_or("a name")?;
+    let other = named(&rt, "service_tests_named_other.ts")?;
+    let other = other.to_str().ok_or("a name")?;
+    let _ = fs::remove_file(&rt, other);
+    let advert = Stream::of(rt.alloc(), ADVERT)?;
+    let list = format!(in rt.alloc(); "7 {stream}\n")?;
+    let both = format!(in rt.alloc(); "2 497 2 {adverts}\n1 496 1 {adverts}\n")?;
+    fs::write(&rt, network, b"".as_slice())?;
+    fs::write(&rt, stream, advert.bytes())?;
+    fs::write(&rt, adverts, list.as_bytes())?;
+    fs::write(&rt, services, both.as_bytes())?;
+    expect_refused(&rt, &reading(network, services), stream, other)?;
+    expect_refused(&rt, &reading(network, services), adverts, other)?;
+    assert!(rt; fs::read(&rt, stream)?.as_slice() == advert.bytes());
+    assert!(rt; fs::read(&rt, adverts)?.as_slice() == list.as_bytes());
+    for path in [network, stream, adverts, services] {
+        fs::remove_file(&rt, path)?;
+    }
+    Ok(())
+}
+
 #[test]
 fn a_bad_list_is_told_by_its_line(rt: HostRuntime) -> Result<(), Fail> {
     let services = named(&rt, "service_tests_bad_services.txt")?;
