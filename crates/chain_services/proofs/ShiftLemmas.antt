@@ -1,5 +1,5 @@
 -- Services that take a packet, behind some that do not: these add nothing, and nothing changes for them.
-use Rattle.std.proofs.Common.{◌≡◌, ◌≤◌, ◌%◌, ◌/◌, ◌+◌, ◌^◌, ℕ, zero, suc, length, List, [], ◌∷◌, ◌++◌, Bool, ◌||◌, refl, sym, ap, subst, ◌∙◌, arith}
+use Rattle.std.proofs.Common.{◌≡◌, ◌≤◌, ◌%◌, ◌/◌, ◌^◌, ℕ, zero, suc, length, List, [], ◌∷◌, ◌++◌, Bool, ◌||◌, refl, sym, ap, subst, ◌∙◌, arith}
 use Rattle.std.specs.Prelude.{if◌then◌else◌, Result, Ok, Err, IfOk, IfErr}
 use Rattle.std.specs.Int.Count.{count_trailing_zeros, under}
 use Rattle.std.specs.Option.{option_or}

@@ -1,7 +1,9 @@
 -- A packet on whose PID nothing of a service is: the service owns it not, and no PID more is known of it, so that it may be kept from it.
-use Rattle.std.proofs.Common.{◌≡◌, ◌+◌, ◌%◌, ◌/◌, ℕ, List, [], ◌∷◌, ◌++◌, true, false, ◌==◌, refl, sym, ap, subst, ◌∙◌, arith, Some}
+use Rattle.std.proofs.Common.{◌≡◌, ◌%◌, ◌/◌, Bool, ℕ, List, [], ◌∷◌, ◌++◌, true, false, ◌==◌, refl, sym, ap, subst, ◌∙◌, arith, Some}
 use Rattle.std.specs.Prelude.{option_map, option_to_list, if◌then◌else◌, is_ok, slice_index_or}
 use Rattle.std.proofs.lemmas.Bool.{or_parts, or_from, eqb-false}
+use Rattle.std.proofs.lemmas.List.{append-nil}
+use Rattle.std.proofs.Math.Bool.{or-false}
 use Rattle.ts_packet.proofs.Cases.{by_test}
 use Rattle.wire_fields.specs.Numbers.{AreBytes}
 use Rattle.scte104_codec.specs.Reading.{MessageReading, init, alive, other, multiple, bad}
@@ -21,8 +23,8 @@ use Rattle.service_laws.specs.Services.{ServiceTerms}
 use Rattle.service_laws.proofs.MessageLemmas.{others_verdict}
 use Rattle.chain_services.specs.Owners.{IsNotOf, LeavesOut, HasOwners, AllTake, IsQuiet, IsSkipped, AreSkipped}
 use Rattle.chain_services.specs.Serving.{ServesAs, AllServe}
-use Rattle.chain_services.specs.Parts.{owns, one_owns, KnowsSame, AllKnowSame, PassedOne, PassedEach}
-use Rattle.chain_services.proofs.PartLemmas.{taken_packets, serves_packet, other_out, none_adds}
+use Rattle.chain_services.specs.Parts.{owns, one_owns, part_of, KnowsSame, AllKnowSame, PassedOne, PassedEach}
+use Rattle.chain_services.proofs.PartLemmas.{taken_packets, serves_packet, other_out, none_adds, each_joined}
 
 -- a packet of a PID that is none of these is on none of them
 none-one : (pids : List ℕ) (p : List ℕ) → is_among (pid_of p) pids ≡ false → on_one pids p ≡ false
@@ -105,6 +107,15 @@ pub passed-all : (ss : List Service) (ts : List ServiceTerms) (p : List ℕ) (st
 passed-all ss ts p steps takers is_out all bytes none skip out =
     let k = skipped-all ss ts p steps all bytes (subst (λ n. AreSkipped n ts p steps) none skip) in
     record { owns_it = sym k.0; still = λ quiet. k.1; serve = k.2; out = subst is_out (sym (none_adds ts p steps k.0)) out }
+
+-- from all behind one that takes it
+pub passed-first : (own learns : Bool) (s : Service) (ss : List Service) (ts : List ServiceTerms) (t : ServiceTerms) (rest : List ServiceTerms) → ts ≡ t ∷ rest → (p : List ℕ) (steps : List Step)
+    (is_out : List (List ℕ) → Type 0) (before : List (List ℕ)) → PassedOne own learns s t p steps (λ l. is_out (before ++ l)) → AllServe ss rest steps → AreBytes p → AreSkipped 0 rest p steps
+    → PassedEach own learns (s ∷ ss) ts p steps (λ l. is_out (before ++ l))
+passed-first own learns s ss ts t rest parts p steps is_out before one all bytes skip =
+    let part = before ++ part_of t p steps in
+    each_joined own learns own false learns false (sym (or-false own)) (sym (or-false learns)) s ss ts t rest parts p steps (λ l. is_out (before ++ l)) is_out before one
+    (passed-all ss rest p steps 0 (λ l. is_out (part ++ l)) all bytes refl skip (subst is_out (sym (append-nil part)) one.out))
 
 -- ---- which services take the packets of a PID
 

@@ -1,6 +1,6 @@
 //! Which services take the packets of each PID, looked up at once.
 
-ghost use Rattle.std.specs.Prelude.{◌≡◌, ◌<◌, ◌≤◌, ◌==◌, ◌∷◌, ◌%◌, ◌/◌, ℕ, List, Some, slice_index_or, slice_set, length, true, false};
+ghost use Rattle.std.specs.Prelude.{◌≡◌, ◌<◌, ◌≤◌, ◌==◌, ◌∷◌, ◌%◌, ◌/◌, ◌&&◌, not, ℕ, List, Some, slice_index_or, slice_set, length, true, false};
 ghost use Rattle.std.specs.List.{list_any};
 ghost use Rattle.std.specs.Option.{is_some};
 ghost use Rattle.ts_packet.specs.Fields.{pid_of, is_among};
@@ -19,7 +19,7 @@ const ALL: u8 = 255;
 
 /// Of each PID (ISO/IEC 13818-1, 2.4.3.3) which services take its packets.
 #[derive(Drop)]
-pub(crate) struct Owners {
+pub struct Owners {
     /// Under each PID a number whose bit n is set where the service of number n takes them, counted from 0, or `ALL`.
     takers: [u8; 8192],
 }
@@ -36,7 +36,7 @@ impl Model for Owners {
 
 impl Owners {
     /// All services take all packets.
-    pub(crate) fn new() -> Owners
+    pub fn new() -> Owners
         ensures { AllTake result }
     {
         Owners::of_all(ALL)
@@ -51,9 +51,18 @@ impl Owners {
         }
     }
 
+    /// All services take all packets from now on.
+    #[cold]
+    #[inline(never)]
+    pub fn forget(&mut self)
+        ensures { AllTake self.new }
+    {
+        self.takers = [ALL; 8192];
+    }
+
     /// Which services take the packet.
     #[inline(always)]
-    pub(crate) fn takers(&self, packet: &Packet) -> u8
+    pub fn takers(&self, packet: &Packet) -> u8
         ensures value { result ≡ slice_index_or self.now (pid_of packet.now) 0 }
         ensures pid { pid_of packet.now < 8192 }
     {
@@ -61,7 +70,7 @@ impl Owners {
     }
 
     /// These services take the packets of the PID.
-    fn set(&mut self, pid: Pid, takers: u8)
+    pub fn set(&mut self, pid: Pid, takers: u8)
         ensures new { self.new ≡ slice_set self.old pid takers }
         ensures size { length self.old ≡ 8192 }
         ensures pid { pid < 8192 }
@@ -70,18 +79,20 @@ impl Owners {
     }
 }
 
-/// All services take a packet where a message was judged since the last one, or where the table says so.
+/// All services take a packet where they are all asked, as where a message was judged since the last one, or where the table says so.
 #[inline(always)]
-pub(crate) fn takes_all(has_heard: bool, takers: u8) -> bool
-    ensures heard { result ≡ false → has_heard ≡ false }
+pub fn takes_all(asks_all: bool, takers: u8) -> bool
+    ensures asked { result ≡ false → asks_all ≡ false }
     ensures told { result ≡ false → takers < 255 }
+    ensures by_bits { asks_all ≡ false → takers < 255 → result ≡ false }
 {
-    has_heard || takers == ALL
+    asks_all || takers == ALL
 }
 
 /// The first of the services of these bits takes no packet.
 #[inline(always)]
-pub(crate) fn leaves_out(all: bool, takers: u8) -> bool
+pub fn leaves_out(all: bool, takers: u8) -> bool
+    ensures value { result ≡ (not all && (takers % 2 == 0)) }
     ensures all { result ≡ true → all ≡ false }
     ensures bit { result ≡ true → takers % 2 ≡ 0 }
 {
@@ -90,7 +101,7 @@ pub(crate) fn leaves_out(all: bool, takers: u8) -> bool
 
 /// None of them does.
 #[inline(always)]
-pub(crate) fn leaves_out_all(all: bool, takers: u8) -> bool
+pub fn leaves_out_all(all: bool, takers: u8) -> bool
     ensures all { result ≡ true → all ≡ false }
     ensures none { result ≡ true → takers ≡ 0 }
 {
@@ -99,16 +110,16 @@ pub(crate) fn leaves_out_all(all: bool, takers: u8) -> bool
 
 /// Where the first service stands that takes a packet.
 #[derive(Clone, Copy, Debug, PartialEq, Eq)]
-pub(crate) struct Shift {
+pub struct Shift {
     /// So many services before it take none.
-    pub(crate) count: usize,
+    pub count: usize,
     /// Its bit, and those of the services behind it.
-    pub(crate) takers: u8,
+    pub takers: u8,
 }
 
 /// Where the first of the services of these bits stands that takes a packet, or the one behind so many.
 #[inline(always)]
-pub(crate) fn shift_of(takers: u8, most: usize) -> Shift
+pub fn shift_of(takers: u8, most: usize) -> Shift
     ensures shifted { IsShifted result.count result.takers takers }
     ensures few { result.count ≤ most }
 {
@@ -123,7 +134,7 @@ pub(crate) fn shift_of(takers: u8, most: usize) -> Shift
 }
 
 /// The bits of a service before those of others.
-fn with_taker(is_left_out: bool, others: u8) -> u8
+pub fn with_taker(is_left_out: bool, others: u8) -> u8
     ensures below { result < 255 → others < 255 }
     ensures others { result < 255 → result / 2 ≡ others }
     ensures bit { result < 255 → result % 2 ≡ 0 → is_left_out ≡ true }

@@ -184,6 +184,47 @@ fn pass_each<K: PacketSink>(
     }
 }
 
+/// Passes a packet on through the first of these services, which alone takes it. It looks at no other one, and so calls itself not.
+///
+/// # Errors
+///
+/// As for [`pass_each`].
+#[inline(never)]
+fn pass_first<K: PacketSink>(
+    services: &mut [Service],
+    libraries: &[AdLibrary],
+    packet: &Packet,
+    out: &mut K,
+) -> Result<Passed, FeedFault>
+    ensures leads { K.leads out.old out.new }
+    ensures ok { (ts : List ServiceTerms) (steps : List Step) (start : Option (List ℕ)) (ps : List (List ℕ))
+        → FiledAs libraries.now ts → AllServe services.old ts steps → AreSkipped 1 ts packet.now steps → K.holds out.old start ps
+        → IfOk result (λ passed. PassedEach passed.is_own passed.learns services.new ts packet.now steps
+        (λ l. K.holds out.new start (ps ++ l))) }
+    ensures err { (ts : List ServiceTerms) (steps : List Step) (start : Option (List ℕ)) (ps : List (List ℕ))
+        → FiledAs libraries.now ts → AllServe services.old ts steps → AreSkipped 1 ts packet.now steps → K.holds out.old start ps
+        → IfErr result (λ f. FailedEach f ts packet.now steps (parts_of ts packet.now steps)
+        (λ l. K.holds out.new start (ps ++ l)) (λ put q x. K.fails out.new start (ps ++ put) q x)) }
+    ensures well { OnOk result (WentWell (K.counts out.old) (K.counts out.new)) }
+    ensures blamed { IfErr result (λ f. OutputBlamed (RunFault.Feed f)
+        (K.counts out.old) (K.counts out.new) (K.is_full out.new)) }
+{
+    of_bytes(packet);
+    let Some((service, _others)) = services.split_first_mut() else {
+        return Ok(Passed {
+            is_own: false,
+            learns: false,
+        });
+    };
+    let Some((library, _behind)) = libraries.split_first() else {
+        return Ok(Passed {
+            is_own: false,
+            learns: false,
+        });
+    };
+    pass_one(false, service, library, packet, out)
+}
+
 /// Does what [`pass_each`] does, and begins with the first of these services that takes the packet.
 ///
 /// # Errors
@@ -226,6 +267,9 @@ fn pass_some<K: PacketSink>(
     let shift = shift_of(takers, services.len().min(libraries.len()));
     let (_, services) = services.split_at_mut(shift.count);
     let (_, libraries) = libraries.split_at(shift.count);
+    if shift.takers == 1 {
+        return pass_first(services, libraries, packet, out);
+    }
     pass_each(false, shift.takers, services, libraries, packet, out)
 }
 

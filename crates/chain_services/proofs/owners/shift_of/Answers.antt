@@ -1,4 +1,4 @@
-use Rattle.std.proofs.Common.{◌≡◌, ◌≤◌, arith}
+use Rattle.std.proofs.Common.{◌≤◌, arith}
 use Rattle.std.specs.Int.Count.{count_trailing_zeros}
 use Rattle.chain_services.proofs.ShiftLemmas.{shifted-by}
 use Rattle.chain_services.proofs.owners.shift_of.Goals as goal

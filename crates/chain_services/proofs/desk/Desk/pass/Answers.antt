@@ -16,7 +16,7 @@ returns-in-Err-clause-err g c = λ ts steps start ps filed apart stands is_held.
     (has (pid_of c.args.packet.now) c.takers-takers.ensures.pid (subst (λ k. k < 255) c.takers-takers.ensures.value (c.takes_all-all.ensures.told n)))) in
     let holds = g.K.PacketSink.holds c.pass_through.new.out start in
     let fails = g.K.PacketSink.fails c.pass_through.new.out start in
-    given_failed c.in-Err.fault ts c.args.packet.now steps (λ l. holds (ps ++ l)) (λ put q x. fails (ps ++ put) q x) apart (c.in-Err.ensures.err ts steps start ps filed stands.services (λ n. (stands.quiet (c.takes_all-all.ensures.heard n), owned ts steps stands.owners n)) is_held)
+    given_failed c.in-Err.fault ts c.args.packet.now steps (λ l. holds (ps ++ l)) (λ put q x. fails (ps ++ put) q x) apart (c.in-Err.ensures.err ts steps start ps filed stands.services (λ n. (stands.quiet (c.takes_all-all.ensures.asked n), owned ts steps stands.owners n)) is_held)
 
 pub returns-in-Ok-put-clause-ok : goal.returns-in-Ok-put-clause-ok
 returns-in-Ok-put-clause-ok g c = λ ts steps start ps filed apart stands is_held.
@@ -25,7 +25,7 @@ returns-in-Ok-put-clause-ok g c = λ ts steps start ps filed apart stands is_hel
     (has (pid_of c.args.packet.now) c.takers-takers.ensures.pid (subst (λ k. k < 255) c.takers-takers.ensures.value (c.takes_all-all.ensures.told n)))) in
     let p = c.args.packet.now in
     let n : c.in-Ok.passed.is_own ≡ false = search rules in
-    let done = c.in-Ok.ensures.ok ts steps start ps filed stands.services (λ n. (stands.quiet (c.takes_all-all.ensures.heard n), owned ts steps stands.owners n)) is_held in
+    let done = c.in-Ok.ensures.ok ts steps start ps filed stands.services (λ n. (stands.quiet (c.takes_all-all.ensures.asked n), owned ts steps stands.owners n)) is_held in
     let none = sym done.owns_it ∙ n in
     let before = subst (g.K.PacketSink.holds c.pass_through.new.out start) (ap (λ l. ps ++ l) (none_adds ts p steps none) ∙ append-nil ps) done.out in
     let alone = given_parts ts p steps apart ∙ ap (λ b. if b then parts_of ts p steps else p ∷ []) none in
@@ -38,7 +38,7 @@ returns-in-Err-put-clause-err g c = λ ts steps start ps filed apart stands is_h
     (has (pid_of c.args.packet.now) c.takers-takers.ensures.pid (subst (λ k. k < 255) c.takers-takers.ensures.value (c.takes_all-all.ensures.told n)))) in
     let p = c.args.packet.now in
     let n : c.in-Ok.passed.is_own ≡ false = search rules in
-    let done = c.in-Ok.ensures.ok ts steps start ps filed stands.services (λ n. (stands.quiet (c.takes_all-all.ensures.heard n), owned ts steps stands.owners n)) is_held in
+    let done = c.in-Ok.ensures.ok ts steps start ps filed stands.services (λ n. (stands.quiet (c.takes_all-all.ensures.asked n), owned ts steps stands.owners n)) is_held in
     let none = sym done.owns_it ∙ n in
     let before = subst (g.K.PacketSink.holds c.pass_through.new.out start) (ap (λ l. ps ++ l) (none_adds ts p steps none) ∙ append-nil ps) done.out in
     let alone = given_parts ts p steps apart ∙ ap (λ b. if b then parts_of ts p steps else p ∷ []) none in
@@ -57,6 +57,6 @@ returns-else-not-passed-clause-ok g c = λ ts steps start ps filed apart stands 
     (has (pid_of c.args.packet.now) c.takers-takers.ensures.pid (subst (λ k. k < 255) c.takers-takers.ensures.value (c.takes_all-all.ensures.told n)))) in
     let p = c.args.packet.now in
     let y : c.in-Ok.passed.is_own ≡ true = search rules in
-    let done = c.in-Ok.ensures.ok ts steps start ps filed stands.services (λ n. (stands.quiet (c.takes_all-all.ensures.heard n), owned ts steps stands.owners n)) is_held in
+    let done = c.in-Ok.ensures.ok ts steps start ps filed stands.services (λ n. (stands.quiet (c.takes_all-all.ensures.asked n), owned ts steps stands.owners n)) is_held in
     let given = given_parts ts p steps apart ∙ ap (λ b. if b then parts_of ts p steps else p ∷ []) (sym done.owns_it ∙ y) in
     (done.serve, subst (λ l. g.K.PacketSink.holds c.pass_through.new.out start (ps ++ l)) (sym given) done.out, done.still)
