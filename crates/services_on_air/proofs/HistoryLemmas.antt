@@ -57,7 +57,7 @@ by-verdict c p past earlier (Is j) =
 by-verdict c p past earlier (BeginsNew fault) =
     record { e = first_entry (writing_cues c) p; anew = true; is = one-longer (suc (length earlier)); some = λ is_so. refl; parts = refl }
 
-next-so : (shares : Bool) (c : Config) (p : List ℕ) (ss : List (List Entry)) → NextSo ss (stretches_with shares c p ss)
+pub next-so : (shares : Bool) (c : Config) (p : List ℕ) (ss : List (List Entry)) → NextSo ss (stretches_with shares c p ss)
 next-so true c p [] = record { e = first_entry (writing_cues c) p; anew = false; is = refl; some = λ not_so. absurd (cc); parts = refl }
 next-so true c p (past ∷ earlier) =
     record { e = first_entry (writing_cues c) p; anew = true; is = one-longer (suc (length earlier)); some = λ is_so. refl; parts = refl }

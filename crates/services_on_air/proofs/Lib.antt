@@ -7,3 +7,7 @@ mod HistoryLemmas
 mod TogetherLemmas
 mod HeardLemmas
 mod AllLemmas
+mod BesideLemmas
+mod OwnerLemmas
+mod StayLemmas
+mod FrontLemmas

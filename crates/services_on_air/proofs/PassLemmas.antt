@@ -9,7 +9,8 @@ use Rattle.chain_engine.specs.Judging.{JudgesAll}
 use Rattle.chain_engine.specs.Talks.{TalkStandsFor}
 use Rattle.chain_engine.specs.declared.talk.Talk.{Talk}
 use Rattle.services_on_air.specs.Airing.{Airing, begins, next_of, nexts, learns, is_left, parted_from, parted, settled, airings, count_if, unjudged_among, one_if_some}
-use Rattle.services_on_air.specs.Standing.{AllStand, AllSettled, AirDeskJudges, AirServicesStandFor, HavePassed}
+use Rattle.services_on_air.specs.Standing.{AllStand, AllSettled, AirDeskJudges, DeskJudged, AirServicesStandFor, HavePassed}
+use Rattle.services_on_air.specs.Owners.{HasOwnersOnAir}
 use Rattle.services_on_air.specs.declared.service.Passed.{Passed}
 use Rattle.services_on_air.specs.declared.desk.AirDesk.{AirDesk}
 use Rattle.services_on_air.specs.declared.services.AirServices.{AirServices}
@@ -67,18 +68,25 @@ pub stands-next : {M : Type 0} (mid counted now : AirServices M) (cs : List Conf
     → counted.packets ≡ capped (mid.packets + 1) → counted.unjudged ≡ (if passed.is_unjudged then capped (mid.unjudged + 1) else mid.unjudged)
     → counted.talk ≡ mid.talk → counted.desk ≡ mid.desk
     → ((xs : List Airing) → AllStand counted.desk.services.items xs → AllStand now.desk.services.items (if passed.learns then parted xs else xs))
+    → ((xs : List Airing) → AllStand counted.desk.services.items xs → (passed.learns ≡ false → HasOwnersOnAir counted.desk.owners xs)
+    → HasOwnersOnAir now.desk.owners (if passed.learns then parted xs else xs))
+    → (DeskJudged counted.desk → DeskJudged now.desk)
     → now.talk ≡ counted.talk → now.packets ≡ counted.packets → now.unjudged ≡ counted.unjudged → AirServicesStandFor now cs (p ∷ past)
-stands-next {M} mid counted now cs p past passed h packets unjudged talk desk parts talk' packets' unjudged' =
+stands-next {M} mid counted now cs p past passed h packets unjudged talk desk parts owns judges talk' packets' unjudged' =
     let xs = nexts p (airings cs past) in
+    let all = subst (λ (d : AirDesk M). AllStand d.services.items xs) (sym desk) h.all in
     record {
       ts = h.ts;
       n = h.n;
       k = h.k;
       talks = subst (λ (t : Talk M). TalkStandsFor t h.ts h.n h.k) (sym (talk' ∙ talk)) h.talks;
       all = subst (λ b. AllStand now.desk.services.items (if b then parted xs else xs)) h.is.learns
-          (parts xs (subst (λ (d : AirDesk M). AllStand d.services.items xs) (sym desk) h.all));
+          (parts xs all);
       packets = packets' ∙ packets ∙ one-more mid.packets (length past) h.packets;
       unjudged = unjudged' ∙ unjudged ∙ counted-if passed.is_unjudged (is_left p xs) mid.unjudged (unjudged_among cs past) h.is.unjudged h.unjudged;
+      owners = subst (λ b. HasOwnersOnAir now.desk.owners (if b then parted xs else xs)) h.is.learns
+          (owns xs all (λ still. subst (λ (d : AirDesk M). HasOwnersOnAir d.owners xs) (sym desk) (h.owners still)));
+      judged = judges (subst (λ (d : AirDesk M). DeskJudged d) (sym desk) h.judged);
     }
 
 -- ---- the count of stretches

@@ -150,6 +150,7 @@ stands-behind old new p q a h is config marks empty shares begun i =
       is_empty = empty ∙ h.is_empty ∙ sym (ap has_no h.parts);
       shares = shares ∙ h.shares;
       begun = begun ∙ h.begun;
+      quiet = i.news;
     }
 
 pub is-marked : (s : AirService) (p : List ℕ) (a : Airing) (h : IsSettled s p a) → s.is_unjudged ≡ true → marked p ≡ (if is_judged h.j then p else marked p)
@@ -165,7 +166,7 @@ is-itself s p a h y = by_judged (is_judged h.j) (sym h.unjudged ∙ y) where
   by_judged false n = absurd (cc)
 
 module _ (s : AirService) (p : List ℕ) (a : Airing) (h : IsSettled s p a) where
-  before-is : packets_in h.followed.steps ≡ as_read (before_last (newest a.stretches))
+  pub before-is : packets_in h.followed.steps ≡ as_read (before_last (newest a.stretches))
   before-is = h.followed.packets ∙ sym (ap (λ w. as_read (before_last (newest w))) h.parts)
 
   pub owns-is : (b : Bool) → b ≡ on_one (known_pids (Some a.config.program) (packets_in h.followed.steps)) p → b ≡ owns p a

@@ -1,4 +1,5 @@
 pub mod Airing
+pub mod Owners
 pub mod Standing
 pub mod Histories
 pub mod Outputs

@@ -1,6 +1,7 @@
 -- What several services on air stand for, packet by packet.
-use Rattle.std.specs.Prelude.{◌≡◌, ℕ, ◌+◌, List, [], ◌∷◌, ◌++◌, reverse, length, false, not}
+use Rattle.std.specs.Prelude.{◌≡◌, ◌<◌, ℕ, ◌+◌, List, [], ◌∷◌, ◌++◌, reverse, length, true, false, not, slice_index_or}
 use Rattle.std.specs.List.{list_any}
+use Rattle.ts_packet.specs.Fields.{pid_of}
 use Rattle.ts_packet.specs.Packets.{packets_of}
 use Rattle.psi_section.specs.Assembling.{capped}
 use Rattle.psi_tables.specs.declared.config.Config.{Config}
@@ -19,6 +20,7 @@ use Rattle.service_laws.specs.Services.{ServiceTerms}
 use Rattle.chain_services.specs.Serving.{CountsReplies}
 use Rattle.services_on_air.specs.Histories.{Gone}
 use Rattle.services_on_air.specs.Serving.{DeskGone, gones_asked, reply_by_gone}
+use Rattle.services_on_air.specs.Owners.{HasOwnersOnAir, HasOwnersAhead, AllJudged, AreLeftOut}
 use Rattle.services_on_air.specs.declared.service.AirService.{AirService}
 use Rattle.services_on_air.specs.declared.service.Passed.{Passed}
 use Rattle.services_on_air.specs.declared.desk.AirDesk.{AirDesk}
@@ -34,6 +36,7 @@ pub record AirStandsFor (service : AirService) (a : Airing) : Type 0 where
   pub is_empty : service.is_empty ≡ has_no a.stretches
   pub shares : service.shares ≡ a.shares
   pub begun : service.begun ≡ capped (behind_first a.stretches)
+  pub quiet : service.service.injector.has_news ≡ false
 
 -- where its next stretch begins: these are those before it
 pub record BeginsBehind (service : AirService) (c : Config) (ss : List (List Entry)) : Type 0 where
@@ -89,6 +92,17 @@ pub record AirDeskJudges {M : Type 0} (old : AirDesk M) (m : MessageReading) (re
       → (reply ≡ reply_by_gone ts gs m) × DeskGone new ts (gones_asked ts m gs)
   pub counts : (rs : List Reply) → CountsReplies old.counts.messages old.counts.accepted old.counts.refused rs
       → CountsReplies new.counts.messages new.counts.accepted new.counts.refused (rs ++ reply ∷ [])
+  pub owners : new.owners ≡ old.owners
+  pub asks : new.asks_all ≡ true
+
+-- unless all are to be shown it, those services that do not take the settled packet are left out
+abbrev pub DeskLeavesOut : {M : Type 0} → AirDesk M → List ℕ → List Airing → Type 0
+DeskLeavesOut desk p ys = desk.asks_all ≡ false → slice_index_or desk.owners (pid_of p) 0 < 255
+    → AreLeftOut (slice_index_or desk.owners (pid_of p) 0) desk.services.items (pid_of p) ys
+
+-- and unless all are to be shown the next one, none left the last one unjudged
+abbrev pub DeskJudged : {M : Type 0} → AirDesk M → Type 0
+DeskJudged desk = desk.asks_all ≡ false → AllJudged desk.services.items
 
 -- these packets have passed, newest first
 pub record AirServicesStandFor {M : Type 0} (services : AirServices M) (cs : List Config) (past : List (List ℕ)) : Type 0 where
@@ -99,6 +113,8 @@ pub record AirServicesStandFor {M : Type 0} (services : AirServices M) (cs : Lis
   pub all : AllStand services.desk.services.items (airings cs past)
   pub packets : services.packets ≡ capped (length past)
   pub unjudged : services.unjudged ≡ capped (unjudged_among cs past)
+  pub owners : HasOwnersOnAir services.desk.owners (airings cs past)
+  pub judged : DeskJudged services.desk
 
 -- these have, and what becomes of this one is settled for each service, which has not passed it on yet
 pub record AreSettled {M : Type 0} (services : AirServices M) (cs : List Config) (p : List ℕ) (past : List (List ℕ)) : Type 0 where
@@ -109,6 +125,8 @@ pub record AreSettled {M : Type 0} (services : AirServices M) (cs : List Config)
   pub all : AllSettled services.desk.services.items p (nexts p (airings cs past))
   pub packets : services.packets ≡ capped (length past)
   pub unjudged : services.unjudged ≡ capped (unjudged_among cs past)
+  pub owners : HasOwnersAhead services.desk.owners (nexts p (airings cs past))
+  pub left : DeskLeavesOut services.desk p (nexts p (airings cs past))
 
 -- each has passed it on, and this is told of it; it is not counted yet, and where services share a PID no stretch has ended
 pub record HavePassed {M : Type 0} (services : AirServices M) (cs : List Config) (p : List ℕ) (past : List (List ℕ)) (passed : Passed) : Type 0 where
@@ -120,6 +138,8 @@ pub record HavePassed {M : Type 0} (services : AirServices M) (cs : List Config)
   pub packets : services.packets ≡ capped (length past)
   pub unjudged : services.unjudged ≡ capped (unjudged_among cs past)
   pub is : ArePassed passed p (nexts p (airings cs past))
+  pub owners : passed.learns ≡ false → HasOwnersOnAir services.desk.owners (nexts p (airings cs past))
+  pub judged : DeskJudged services.desk
 
 -- THE THEOREM for any network: what is told of the stretches of all services, and of their packets that were left unjudged
 pub record TellsOfAll {R : Type 0} (told : AirReport R) (cs : List Config) (past : List (List ℕ)) : Type 0 where

@@ -1,20 +1,24 @@
 //! Whose a message is.
 
-ghost use Rattle.std.specs.Prelude.{◌≡◌, ◌==◌, ℕ, List};
+ghost use Rattle.std.specs.Prelude.{◌≡◌, ◌==◌, ℕ, List, true, false};
 ghost use Rattle.scte104_codec.specs.Views.{reading_of};
 ghost use Rattle.service_laws.specs.Messages.{is_for};
 ghost use Rattle.service_laws.specs.Services.{ServiceTerms};
+ghost use Rattle.chain_services.specs.Owners.{AllTake};
 ghost use Rattle.services_on_air.specs.Airing.{Airing};
-ghost use Rattle.services_on_air.specs.Standing.{AllSettled};
+ghost use Rattle.services_on_air.specs.Standing.{AllStand, AllSettled};
+ghost use Rattle.services_on_air.specs.Owners.{HasOwnersOnAir};
 ghost use Rattle.services_on_air.specs.Histories.{Gone};
 ghost use Rattle.services_on_air.specs.Serving.{AllGone, AskedOnAir, DeskGone, gones_asked, reply_by_gone};
 
+use crate::owners::tell;
 use crate::service::AirService;
 use chain_engine::Judge;
-use chain_services::{counted, index_of};
+use chain_services::{Owners, counted, index_of, takes_all};
 use injector::{MessageCounts, Requests};
 use scte104_codec::{BadMessage, Message, Reply};
 use std::alloc::Allocator;
+use ts_packet::Packet;
 
 /// Has the service with this index judge the message, where there is one.
 fn ask_own(
@@ -45,6 +49,11 @@ pub(crate) struct AirDesk<M: Allocator> {
     pub(crate) none: Requests,
     /// How many messages were judged.
     pub(crate) counts: MessageCounts,
+    /// Which services take the packets of each PID.
+    pub(crate) owners: Owners,
+    /// All services take the packet that is settled, or that comes next: before it a message was judged, so that cues may go out before it, or a
+    /// stretch begins with it; or one of the services left the last packet unjudged; or more PIDs are known since that.
+    pub(crate) asks_all: bool,
 }
 
 impl<M: Allocator> AirDesk<M> {
@@ -56,6 +65,7 @@ impl<M: Allocator> AirDesk<M> {
             → (result ≡ reply_by_gone ts gs (reading_of message.entry))
             × DeskGone self.new ts (gones_asked ts (reading_of message.entry) gs) }
         ensures counts { self.new.counts ≡ self.old.counts }
+        ensures owners { self.new.owners ≡ self.old.owners }
     {
         match index_of(&message) {
             None => self.none.ask(message),
@@ -63,6 +73,43 @@ impl<M: Allocator> AirDesk<M> {
                 Some(reply) => reply,
                 None => self.none.ask(message),
             },
+        }
+    }
+}
+
+impl<M: Allocator> AirDesk<M> {
+    /// Where a stretch begins anew with the packet that is settled, all services take that, and those behind it until it is told anew of their PIDs.
+    #[inline(always)]
+    pub(crate) fn settled(&mut self, is_anew: bool)
+        ensures anew { is_anew ≡ true → AllTake self.new.owners × (self.new.asks_all ≡ true) }
+        ensures same { is_anew ≡ false → self.new ≡ self.old }
+        ensures others { (self.new.services ≡ self.old.services) × (self.new.none ≡ self.old.none) × (self.new.counts ≡ self.old.counts) }
+    {
+        if is_anew {
+            self.forget();
+        }
+    }
+
+    /// Learns that more PIDs are known: all services take each packet until it is told anew of its PID, and all take the next one.
+    pub(crate) fn forget(&mut self)
+        ensures table { AllTake self.new.owners }
+        ensures all { self.new.asks_all ≡ true }
+        ensures others { (self.new.services ≡ self.old.services) × (self.new.none ≡ self.old.none) × (self.new.counts ≡ self.old.counts) }
+    {
+        self.owners.forget();
+        self.asks_all = true;
+    }
+
+    /// Looks up which services take the packets of the PID of this one, where it is not told.
+    #[inline(always)]
+    pub(crate) fn look_up(&mut self, packet: &Packet)
+        ensures owners { (xs : List Airing) → AllStand self.old.services.items xs → HasOwnersOnAir self.old.owners xs
+            → HasOwnersOnAir self.new.owners xs }
+        ensures all { self.new.asks_all ≡ self.old.asks_all }
+        ensures others { (self.new.services ≡ self.old.services) × (self.new.none ≡ self.old.none) × (self.new.counts ≡ self.old.counts) }
+    {
+        if takes_all(false, self.owners.takers(packet)) {
+            tell(&mut self.owners, self.services.as_slice(), packet.pid());
         }
     }
 }
@@ -76,6 +123,7 @@ impl<M: Allocator> Judge for AirDesk<M> {
     fn ask(&mut self, message: Result<Message<'_>, BadMessage>) -> Reply {
         let reply = self.judge(message);
         self.counts = counted(self.counts, &reply);
+        self.asks_all = true;
         reply
     }
 }

@@ -4,6 +4,7 @@
 #![tactic(auto)]
 
 mod desk;
+mod owners;
 mod running;
 mod service;
 mod services;

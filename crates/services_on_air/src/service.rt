@@ -17,6 +17,7 @@ ghost use Rattle.on_air.specs.Marking.{Keeps, Becomes};
 ghost use Rattle.on_air.specs.AirRuns.{has_no};
 ghost use Rattle.services_on_air.specs.Airing.{Airing, begins, next_of, anew_with, known_of, known_before, owns, behind_first};
 ghost use Rattle.services_on_air.specs.Standing.{AirStandsFor, BeginsBehind, IsSettled, IsPassed};
+ghost use Rattle.services_on_air.specs.Owners.{IsBeside};
 ghost use Rattle.services_on_air.specs.Histories.{Gone, HasGone, TailKept, nothing_gone, gone_asked, gone_on, gone_anew, gone_settled, begins_anew};
 ghost use Rattle.services_on_air.specs.Histories.{aired_as, put_anew, put_settled, put_on, put_own, put_last, counts_to_end};
 
@@ -40,6 +41,8 @@ pub(crate) struct Passed {
     pub(crate) is_unjudged: bool,
     /// With it more PIDs may be known of a service.
     pub(crate) learns: bool,
+    /// Some service left it unjudged.
+    pub(crate) has_left: bool,
 }
 
 impl Passed {
@@ -48,11 +51,13 @@ impl Passed {
         ensures own { result.is_own ≡ false }
         ensures unjudged { result.is_unjudged ≡ false }
         ensures learns { result.learns ≡ false }
+        ensures left { result.has_left ≡ false }
     {
         Passed {
             is_own: false,
             is_unjudged: false,
             learns: false,
+            has_left: false,
         }
     }
 
@@ -62,6 +67,7 @@ impl Passed {
         ensures unjudged { result.is_unjudged ≡ (if self.is_own then self.is_unjudged
             else (if other.is_own then other.is_unjudged else (self.is_unjudged || other.is_unjudged))) }
         ensures learns { result.learns ≡ (self.learns || other.learns) }
+        ensures left { result.has_left ≡ (self.has_left || other.has_left) }
     {
         let is_unjudged = if self.is_own {
             self.is_unjudged
@@ -74,6 +80,7 @@ impl Passed {
             is_own: self.is_own || other.is_own,
             is_unjudged,
             learns: self.learns || other.learns,
+            has_left: self.has_left || other.has_left,
         }
     }
 }
@@ -152,6 +159,19 @@ impl AirService {
         self.service.pids()
     }
 
+    /// Nothing of its program is on the PID, behind its PAT in the stretch that goes on: a packet of that PID changes nothing of it.
+    pub(crate) fn overlooks_pid(&self, pid: Pid) -> bool
+        ensures { (a : Airing) → AirStandsFor self.now a → result ≡ true → IsBeside pid a }
+    {
+        if self.is_empty {
+            return false;
+        }
+        if self.shares {
+            return false;
+        }
+        self.service.overlooks_pid(pid)
+    }
+
     /// Judges a message by the packets of its stretch, and answers it.
     pub(crate) fn ask(&mut self, message: Result<Message<'_>, BadMessage>) -> Reply
         ensures stands { (p : List ℕ) (a : Airing) → IsSettled self.old p a → IsSettled self.new p a }
@@ -195,7 +215,7 @@ impl AirService {
         self.shares = false;
     }
 
-    /// Ends its stretch, and settles what becomes of the next packet, with which another begins.
+    /// Ends its stretch, and settles what becomes of the next packet, with which another begins: it answers that one does.
     ///
     /// # Errors
     ///
@@ -206,25 +226,26 @@ impl AirService {
         library: &AdLibrary,
         out: &mut K,
         watch: &mut A,
-    ) -> Result<(), PutFault>
+    ) -> Result<bool, PutFault>
         ensures leads { K.leads out.old out.new }
         ensures stands { (c : Config) (ss : List (List Entry)) → self.old.service.config ≡ c → self.old.begun ≡ capped (behind_first ss)
             → has_no ss ≡ false → OnOk result (IsSettled self.new packet.now (anew_with packet.now c ss)) }
         ensures out { (t : ServiceTerms) (g : Gone) (start : Option (List ℕ)) (ps : List (List ℕ)) → held library.now ≡ t.filed
             → HasGone self.old t g → K.holds out.old start ps
             → OnOk result (HasGone self.new t (gone_anew t g) × K.holds out.new start (ps ++ put_anew t g)) }
+        ensures anew { IfOk result (λ is_anew. is_anew ≡ true) }
     {
         match self.begin_anew(library, out, watch) {
             Ok(()) => {
                 self.settle_first(packet);
-                Ok(())
+                Ok(true)
             }
             Err(fault) => Err(fault),
         }
     }
 
     /// Settles what becomes of the next packet, before the messages that come before it are heard: a stretch that begins anew with it begins
-    /// here.
+    /// here. Whether one does.
     ///
     /// # Errors
     ///
@@ -235,7 +256,7 @@ impl AirService {
         library: &AdLibrary,
         out: &mut K,
         watch: &mut A,
-    ) -> Result<(), PutFault>
+    ) -> Result<bool, PutFault>
         ensures leads { K.leads out.old out.new }
         ensures stands { (a : Airing) → AirStandsFor self.old a
             → OnOk result (IsSettled self.new next.entry.packet.now (next_of next.entry.packet.now a)) }
@@ -243,11 +264,12 @@ impl AirService {
             → held library.now ≡ t.filed → HasGone self.old t g → K.holds out.old start ps
             → OnOk result (HasGone self.new t (gone_settled t (begins_anew next.entry.packet.now a) g)
             × K.holds out.new start (ps ++ put_settled t (begins_anew next.entry.packet.now a) g)) }
+        ensures anew { (a : Airing) → AirStandsFor self.old a → IfOk result (λ is_anew. is_anew ≡ begins_anew next.entry.packet.now a) }
     {
         let packet = next.packet;
         if self.is_empty {
             self.settle_first(packet);
-            return Ok(());
+            return Ok(false);
         }
         if self.shares {
             return self.settle_anew(packet, library, out, watch);
@@ -255,11 +277,11 @@ impl AirService {
         match self.judge(packet) {
             Verdict::Judged => {
                 self.is_unjudged = false;
-                Ok(())
+                Ok(false)
             }
             Verdict::Unjudged => {
                 self.is_unjudged = true;
-                Ok(())
+                Ok(false)
             }
             Verdict::BeginsAnew(fault) => {
                 self.tell(RunFault::Feed(FeedFault::Network(fault)), next, watch);
@@ -383,12 +405,14 @@ impl AirService {
             → IfOk result (λ passed. (passed.is_own ≡ is_own)
             × HasGone self.new t (gone_on t (aired_as packet.now self.old.is_unjudged) g)
             × K.holds out.new start (ps ++ put_on t (aired_as packet.now self.old.is_unjudged) g)) }
+        ensures left { IfOk result (λ passed. passed.has_left ≡ self.new.is_unjudged) }
     {
         match self.pass_to(packet, library, out) {
             Ok(()) => Ok(Passed {
                 is_own,
                 is_unjudged: self.is_unjudged,
                 learns: self.service.pid_count() != known,
+                has_left: self.is_unjudged,
             }),
             Err(fault) => Err(fault),
         }
@@ -413,6 +437,7 @@ impl AirService {
             → HasGone self.old t g → K.holds out.old start ps
             → IfOk result (λ passed. HasGone self.new t (gone_on t (aired_as packet.now self.old.is_unjudged) g)
             × K.holds out.new start (ps ++ put_own passed.is_own t (aired_as packet.now self.old.is_unjudged) g)) }
+        ensures left { IfOk result (λ passed. passed.has_left ≡ self.new.is_unjudged) }
     {
         let known = self.service.pid_count();
         if self.service.owns(packet) {

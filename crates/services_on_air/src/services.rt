@@ -1,6 +1,9 @@
 //! The services of a run on air, packet by packet.
 
-ghost use Rattle.std.specs.Prelude.{◌≡◌, ◌++◌, ◌+◌, ℕ, if◌then◌else◌, List, ◌∷◌, [], map, length, false, Option, None, OnOk, IfOk, IfErr};
+ghost use Rattle.std.specs.Prelude.{◌≡◌, ◌||◌, ◌++◌, ◌+◌, ℕ, if◌then◌else◌, List, ◌∷◌, [], map, length, true, false, Option, None, OnOk, IfOk, IfErr};
+ghost use Rattle.std.specs.List.{list_any};
+ghost use Rattle.ts_packet.specs.Fields.{pid_of};
+ghost use Rattle.ad_library.specs.Library.{held};
 ghost use Rattle.scte104_codec.specs.declared.reply.Reply.{Reply};
 ghost use Rattle.service_laws.specs.Messages.{share_an_index};
 ghost use Rattle.service_laws.specs.Services.{ServiceTerms, configs_of};
@@ -10,9 +13,11 @@ ghost use Rattle.chain_services.specs.Serving.{FiledAs};
 ghost use Rattle.psi_section.specs.Assembling.{capped};
 ghost use Rattle.psi_tables.specs.declared.config.Config.{Config};
 ghost use Rattle.chain_services.specs.Refused.{services_refused, IsRefused};
-ghost use Rattle.services_on_air.specs.Airing.{Airing, begins, nexts, parted, begun_in};
-ghost use Rattle.services_on_air.specs.Standing.{AllStand, AllSettled, ArePassed, AirServicesStandFor, AreSettled, HavePassed, TellsOfAll};
-ghost use Rattle.services_on_air.specs.Histories.{Gone};
+ghost use Rattle.services_on_air.specs.Airing.{Airing, begins, next_of, nexts, parted, begun_in};
+ghost use Rattle.services_on_air.specs.Standing.{AirStandsFor, IsSettled, IsPassed, AllStand, AllSettled, ArePassed};
+ghost use Rattle.services_on_air.specs.Standing.{DeskJudged, AirServicesStandFor, AreSettled, HavePassed, TellsOfAll};
+ghost use Rattle.services_on_air.specs.Owners.{HasOwnersOnAir, AllJudged, MayStay, MayAllStay, IsLeftOut, AreLeftOut};
+ghost use Rattle.services_on_air.specs.Histories.{Gone, HasGone, gone_on, gone_settled, begins_anew, put_own, put_settled, aired_as};
 ghost use Rattle.services_on_air.specs.Outputs.{lost_among};
 ghost use Rattle.services_on_air.specs.Serving.{AllGone, DeskGone, nothings_gone, gones_settled, puts_settled, gones_on, puts_on, puts_last};
 ghost use Rattle.services_on_air.specs.Serving.{AddsOnAir, AirServicesBegin, ServicesGone, ServicesSettled, ServicesHeard, ServicesEnded};
@@ -24,8 +29,11 @@ use crate::sharing::part_each;
 use crate::watch::ServicesWatch;
 use ad_library::AdLibrary;
 use arrayvec::ArrayVec;
-use chain_engine::{Automation, OutOfMemory, Talk};
-use chain_services::{ServiceEvents, ServiceFault, ServiceReport, Services};
+use chain_engine::{Automation, OutOfMemory, Talk, of_bytes};
+use chain_services::{
+    Owners, ServiceEvents, ServiceFault, ServiceReport, Services, leaves_out, leaves_out_all,
+    shift_of, takes_all,
+};
 use injector::{MessageCounts, Requests};
 use on_air::AirReport;
 use psi_tables::Config;
@@ -33,7 +41,8 @@ use std::alloc::{Allocator, Global};
 use ts_packet::{Packet, PacketSink, PutFault};
 
 /// What turns a network of several programmes, whatever is wrong with it, and an automation's requests for each of them into the spliced stream.
-/// It takes all its memory when it is made: two times 65,535 bytes for the automation's messages, and some 100,000 bytes for each service.
+/// It takes all its memory when it is made: two times 65,535 bytes for the automation's messages, 8,192 for a table of PIDs, and some 100,000 for each
+/// service.
 #[derive(Drop)]
 pub struct AirServices<M: Allocator = Global> {
     talk: Talk<M>,
@@ -63,44 +72,184 @@ fn add_services<M: Allocator>(
     }
 }
 
-/// Settles for each of these services what becomes of the next packet, before the messages that come before it are heard.
+/// Settles for a service what becomes of the next packet, unless that may stay: it is judged then, and no stretch begins with it. Whether one
+/// does.
+///
+/// # Errors
+///
+/// The sink's.
+#[inline(always)]
+fn settle_one<K: PacketSink, A: ServicesWatch>(
+    is_left_out: bool,
+    service: &mut AirService,
+    library: &AdLibrary,
+    next: Numbered<'_>,
+    out: &mut K,
+    watch: &mut A,
+) -> Result<bool, PutFault>
+    ensures leads { K.leads out.old out.new }
+    ensures stands { (a : Airing) → AirStandsFor service.old a
+        → (is_left_out ≡ true → MayStay service.old (pid_of next.entry.packet.now) a)
+        → OnOk result (IsSettled service.new next.entry.packet.now (next_of next.entry.packet.now a)) }
+    ensures anew { (a : Airing) → AirStandsFor service.old a
+        → (is_left_out ≡ true → MayStay service.old (pid_of next.entry.packet.now) a)
+        → IfOk result (λ is_anew. is_anew ≡ begins_anew next.entry.packet.now a) }
+    ensures left { (a : Airing) → AirStandsFor service.old a
+        → (is_left_out ≡ true → MayStay service.old (pid_of next.entry.packet.now) a) → is_left_out ≡ true
+        → IsLeftOut service.new (pid_of next.entry.packet.now) (next_of next.entry.packet.now a) }
+    ensures out { (a : Airing) (t : ServiceTerms) (g : Gone) (start : Option (List ℕ)) (ps : List (List ℕ)) → AirStandsFor service.old a
+        → (is_left_out ≡ true → MayStay service.old (pid_of next.entry.packet.now) a)
+        → held library.now ≡ t.filed → HasGone service.old t g → K.holds out.old start ps
+        → OnOk result (HasGone service.new t (gone_settled t (begins_anew next.entry.packet.now a) g)
+        × K.holds out.new start (ps ++ put_settled t (begins_anew next.entry.packet.now a) g)) }
+{
+    if is_left_out {
+        return Ok(false);
+    }
+    service.settle(next, library, out, watch)
+}
+
+/// One of them is so.
+#[inline(always)]
+fn either(one: bool, other: bool) -> bool
+    ensures { result ≡ (one || other) }
+{
+    one || other
+}
+
+/// Settles for each of these services what becomes of the next packet, before the messages that come before it are heard: for all, or for those
+/// that take it, whose bits are set. Whether a stretch of one begins with it.
 ///
 /// # Errors
 ///
 /// The sink's.
 fn settle_each<K: PacketSink, A: ServicesWatch>(
+    all: bool,
+    takers: u8,
     services: &mut [AirService],
     libraries: &[AdLibrary],
     next: Numbered<'_>,
     out: &mut K,
     watch: &mut A,
-) -> Result<(), PutFault>
+) -> Result<bool, PutFault>
     ensures leads { K.leads out.old out.new }
     ensures stands { (xs : List Airing) → AllStand services.old xs → length libraries.now ≡ length xs
+        → (all ≡ false → MayAllStay takers services.old (pid_of next.entry.packet.now) xs)
         → OnOk result (AllSettled services.new next.entry.packet.now (nexts next.entry.packet.now xs)) }
+    ensures anew { (xs : List Airing) → AllStand services.old xs → length libraries.now ≡ length xs
+        → (all ≡ false → MayAllStay takers services.old (pid_of next.entry.packet.now) xs)
+        → IfOk result (λ is_anew. is_anew ≡ list_any (begins_anew next.entry.packet.now) xs) }
+    ensures left { (xs : List Airing) → AllStand services.old xs → length libraries.now ≡ length xs
+        → (all ≡ false → MayAllStay takers services.old (pid_of next.entry.packet.now) xs) → all ≡ false
+        → OnOk result (AreLeftOut takers services.new (pid_of next.entry.packet.now) (nexts next.entry.packet.now xs)) }
     ensures out { (xs : List Airing) (ts : List ServiceTerms) (gs : List Gone) (start : Option (List ℕ)) (ps : List (List ℕ))
-        → AllStand services.old xs → FiledAs libraries.now ts → AllGone services.old ts gs → K.holds out.old start ps
+        → AllStand services.old xs → (all ≡ false → MayAllStay takers services.old (pid_of next.entry.packet.now) xs)
+        → FiledAs libraries.now ts → AllGone services.old ts gs → K.holds out.old start ps
         → OnOk result (AllGone services.new ts (gones_settled ts next.entry.packet.now xs gs)
         × K.holds out.new start (ps ++ puts_settled ts next.entry.packet.now xs gs)) }
 {
+    if leaves_out_all(all, takers) {
+        return Ok(false);
+    }
     let Some((service, others)) = services.split_first_mut() else {
-        return Ok(());
+        return Ok(false);
     };
     let Some((library, libraries)) = libraries.split_first() else {
-        return Ok(());
+        return Ok(false);
     };
-    match service.settle(next, library, out, watch) {
-        Ok(()) => settle_each(others, libraries, next, out, watch),
+    let one = match settle_one(leaves_out(all, takers), service, library, next, out, watch) {
+        Ok(one) => one,
+        Err(fault) => return Err(fault),
+    };
+    match settle_each(all, takers / 2, others, libraries, next, out, watch) {
+        Ok(more) => Ok(either(one, more)),
         Err(fault) => Err(fault),
     }
 }
 
-/// Passes a packet on through these services, each with its library.
+/// Does what [`settle_each`] does, and begins with the first of these services that takes the packet.
+///
+/// # Errors
+///
+/// The sink's.
+#[inline(always)]
+fn settle_some<K: PacketSink, A: ServicesWatch>(
+    all: bool,
+    takers: u8,
+    services: &mut [AirService],
+    libraries: &[AdLibrary],
+    next: Numbered<'_>,
+    out: &mut K,
+    watch: &mut A,
+) -> Result<bool, PutFault>
+    ensures leads { K.leads out.old out.new }
+    ensures stands { (xs : List Airing) → AllStand services.old xs → length libraries.now ≡ length xs
+        → (all ≡ false → MayAllStay takers services.old (pid_of next.entry.packet.now) xs)
+        → OnOk result (AllSettled services.new next.entry.packet.now (nexts next.entry.packet.now xs)) }
+    ensures anew { (xs : List Airing) → AllStand services.old xs → length libraries.now ≡ length xs
+        → (all ≡ false → MayAllStay takers services.old (pid_of next.entry.packet.now) xs)
+        → IfOk result (λ is_anew. is_anew ≡ list_any (begins_anew next.entry.packet.now) xs) }
+    ensures left { (xs : List Airing) → AllStand services.old xs → length libraries.now ≡ length xs
+        → (all ≡ false → MayAllStay takers services.old (pid_of next.entry.packet.now) xs) → all ≡ false
+        → OnOk result (AreLeftOut takers services.new (pid_of next.entry.packet.now) (nexts next.entry.packet.now xs)) }
+    ensures out { (xs : List Airing) (ts : List ServiceTerms) (gs : List Gone) (start : Option (List ℕ)) (ps : List (List ℕ))
+        → AllStand services.old xs → (all ≡ false → MayAllStay takers services.old (pid_of next.entry.packet.now) xs)
+        → FiledAs libraries.now ts → AllGone services.old ts gs → K.holds out.old start ps
+        → OnOk result (AllGone services.new ts (gones_settled ts next.entry.packet.now xs gs)
+        × K.holds out.new start (ps ++ puts_settled ts next.entry.packet.now xs gs)) }
+{
+    if leaves_out_all(all, takers) {
+        return Ok(false);
+    }
+    if all {
+        return settle_each(all, takers, services, libraries, next, out, watch);
+    }
+    let shift = shift_of(takers, services.len().min(libraries.len()));
+    let (_, services) = services.split_at_mut(shift.count);
+    let (_, libraries) = libraries.split_at(shift.count);
+    settle_each(false, shift.takers, services, libraries, next, out, watch)
+}
+
+/// Passes a packet on through a service, unless it is left out: it changes nothing of the service then.
+///
+/// # Errors
+///
+/// The sink's.
+#[inline(always)]
+fn pass_one<K: PacketSink>(
+    is_left_out: bool,
+    service: &mut AirService,
+    library: &AdLibrary,
+    packet: &Packet,
+    out: &mut K,
+) -> Result<Passed, PutFault>
+    ensures leads { K.leads out.old out.new }
+    ensures stands { (a : Airing) → IsSettled service.old packet.now a
+        → (is_left_out ≡ true → IsLeftOut service.old (pid_of packet.now) a)
+        → IfOk result (λ passed. AirStandsFor service.new a × IsPassed passed packet.now a) }
+    ensures left { (a : Airing) → (is_left_out ≡ true → IsLeftOut service.old (pid_of packet.now) a)
+        → IfOk result (λ passed. passed.has_left ≡ service.new.is_unjudged) }
+    ensures out { (a : Airing) (t : ServiceTerms) (g : Gone) (start : Option (List ℕ)) (ps : List (List ℕ))
+        → IsSettled service.old packet.now a → (is_left_out ≡ true → IsLeftOut service.old (pid_of packet.now) a)
+        → held library.now ≡ t.filed → HasGone service.old t g → K.holds out.old start ps
+        → IfOk result (λ passed. HasGone service.new t (gone_on t (aired_as packet.now service.old.is_unjudged) g)
+        × K.holds out.new start (ps ++ put_own passed.is_own t (aired_as packet.now service.old.is_unjudged) g)) }
+{
+    if is_left_out {
+        of_bytes(packet);
+        return Ok(Passed::beside());
+    }
+    service.pass(packet, library, out)
+}
+
+/// Passes a packet on through these services, each with its library: through all, or through those that take it, whose bits are set.
 ///
 /// # Errors
 ///
 /// The sink's.
 fn pass_each<K: PacketSink>(
+    all: bool,
+    takers: u8,
     services: &mut [AirService],
     libraries: &[AdLibrary],
     packet: &Packet,
@@ -108,26 +257,75 @@ fn pass_each<K: PacketSink>(
 ) -> Result<Passed, PutFault>
     ensures leads { K.leads out.old out.new }
     ensures stands { (xs : List Airing) → AllSettled services.old packet.now xs → length libraries.now ≡ length xs
+        → (all ≡ false → AreLeftOut takers services.old (pid_of packet.now) xs)
         → IfOk result (λ passed. AllStand services.new xs × ArePassed passed packet.now xs) }
+    ensures judged { (xs : List Airing) → AllSettled services.old packet.now xs → length libraries.now ≡ length xs
+        → (all ≡ false → AreLeftOut takers services.old (pid_of packet.now) xs)
+        → IfOk result (λ passed. passed.has_left ≡ false → AllJudged services.new) }
     ensures out { (ys : List Airing) (ts : List ServiceTerms) (gs : List Gone) (start : Option (List ℕ)) (ps : List (List ℕ))
-        → AllSettled services.old packet.now ys → FiledAs libraries.now ts → AllGone services.old ts gs → K.holds out.old start ps
+        → AllSettled services.old packet.now ys → (all ≡ false → AreLeftOut takers services.old (pid_of packet.now) ys)
+        → FiledAs libraries.now ts → AllGone services.old ts gs → K.holds out.old start ps
         → OnOk result (AllGone services.new ts (gones_on ts packet.now ys gs)
         × K.holds out.new start (ps ++ puts_on ts packet.now ys gs)) }
 {
+    if leaves_out_all(all, takers) {
+        of_bytes(packet);
+        return Ok(Passed::beside());
+    }
     let Some((service, others)) = services.split_first_mut() else {
         return Ok(Passed::beside());
     };
     let Some((library, libraries)) = libraries.split_first() else {
         return Ok(Passed::beside());
     };
-    let one = match service.pass(packet, library, out) {
+    let one = match pass_one(leaves_out(all, takers), service, library, packet, out) {
         Ok(one) => one,
         Err(fault) => return Err(fault),
     };
-    match pass_each(others, libraries, packet, out) {
+    match pass_each(all, takers / 2, others, libraries, packet, out) {
         Ok(others) => Ok(one.joined(others)),
         Err(fault) => Err(fault),
     }
+}
+
+/// Does what [`pass_each`] does, and begins with the first of these services that takes the packet.
+///
+/// # Errors
+///
+/// The sink's.
+#[inline(always)]
+fn pass_some<K: PacketSink>(
+    all: bool,
+    takers: u8,
+    services: &mut [AirService],
+    libraries: &[AdLibrary],
+    packet: &Packet,
+    out: &mut K,
+) -> Result<Passed, PutFault>
+    ensures leads { K.leads out.old out.new }
+    ensures stands { (xs : List Airing) → AllSettled services.old packet.now xs → length libraries.now ≡ length xs
+        → (all ≡ false → AreLeftOut takers services.old (pid_of packet.now) xs)
+        → IfOk result (λ passed. AllStand services.new xs × ArePassed passed packet.now xs) }
+    ensures judged { (xs : List Airing) → AllSettled services.old packet.now xs → length libraries.now ≡ length xs
+        → (all ≡ false → AreLeftOut takers services.old (pid_of packet.now) xs)
+        → IfOk result (λ passed. passed.has_left ≡ false → AllJudged services.new) }
+    ensures out { (ys : List Airing) (ts : List ServiceTerms) (gs : List Gone) (start : Option (List ℕ)) (ps : List (List ℕ))
+        → AllSettled services.old packet.now ys → (all ≡ false → AreLeftOut takers services.old (pid_of packet.now) ys)
+        → FiledAs libraries.now ts → AllGone services.old ts gs → K.holds out.old start ps
+        → OnOk result (AllGone services.new ts (gones_on ts packet.now ys gs)
+        × K.holds out.new start (ps ++ puts_on ts packet.now ys gs)) }
+{
+    of_bytes(packet);
+    if leaves_out_all(all, takers) {
+        return Ok(Passed::beside());
+    }
+    if all {
+        return pass_each(all, takers, services, libraries, packet, out);
+    }
+    let shift = shift_of(takers, services.len().min(libraries.len()));
+    let (_, services) = services.split_at_mut(shift.count);
+    let (_, libraries) = libraries.split_at(shift.count);
+    pass_each(false, shift.takers, services, libraries, packet, out)
 }
 
 /// Puts what is left of the advertisements of these services, each with its library, and adds what became of their events.
@@ -257,6 +455,8 @@ impl<M: Allocator + Copy> AirServices<M> {
                 accepted: 0,
                 refused: 0,
             },
+            owners: Owners::new(),
+            asks_all: true,
         };
         Ok(AirServices {
             talk,
@@ -290,8 +490,16 @@ impl<M: Allocator> AirServices<M> {
             × K.holds out.new start (before ++ air_ahead ts next.entry.packet.now past (steps_of (length rs) takes past))) }
         ensures talk { self.new.talk ≡ self.old.talk }
     {
+        let takers = self.desk.owners.takers(next.packet);
+        let all = takes_all(self.desk.asks_all, takers);
         let services = self.desk.services.as_mut_slice();
-        settle_each(services, libraries, next, out, watch)
+        match settle_some(all, takers, services, libraries, next, out, watch) {
+            Ok(is_anew) => {
+                self.desk.settled(is_anew);
+                Ok(())
+            }
+            Err(fault) => Err(fault),
+        }
     }
 
     /// Hears the automation before the packet that is settled.
@@ -329,11 +537,14 @@ impl<M: Allocator> AirServices<M> {
             × K.holds out.new start (before ++ air_behind ts (packet.now ∷ past) takes rs)) }
         ensures talk { self.new.talk ≡ self.old.talk }
     {
+        let takers = self.desk.owners.takers(packet);
+        let all = takes_all(self.desk.asks_all, takers);
         let services = self.desk.services.as_mut_slice();
-        let passed = match pass_each(services, libraries, packet, out) {
+        let passed = match pass_some(all, takers, services, libraries, packet, out) {
             Ok(passed) => passed,
             Err(fault) => return Err(fault),
         };
+        self.desk.asks_all = passed.has_left;
         if passed.is_own {
             return Ok(passed);
         }
@@ -343,18 +554,24 @@ impl<M: Allocator> AirServices<M> {
         }
     }
 
-    /// Ends the stretches of services that share a PID, where with the packet that came last more PIDs are known.
+    /// Where with the packet that came last more PIDs are known, ends the stretches of services that share one, and forgets which services take the
+    /// packets of each PID. Where none are, looks that up for its PID.
     fn part<A: ServicesWatch>(&mut self, learns: bool, last: Numbered<'_>, watch: &mut A)
         ensures all { (xs : List Airing) → AllStand self.old.desk.services.items xs
             → AllStand self.new.desk.services.items (if learns then parted xs else xs) }
         ensures others { (self.new.talk ≡ self.old.talk) × (self.new.packets ≡ self.old.packets) × (self.new.unjudged ≡ self.old.unjudged) }
         ensures gone { (ts : List ServiceTerms) (gs : List Gone) → DeskGone self.old.desk ts gs → DeskGone self.new.desk ts gs }
         ensures counts { self.new.desk.counts ≡ self.old.desk.counts }
+        ensures owners { (xs : List Airing) → AllStand self.old.desk.services.items xs → (learns ≡ false → HasOwnersOnAir self.old.desk.owners xs)
+            → HasOwnersOnAir self.new.desk.owners (if learns then parted xs else xs) }
+        ensures judged { DeskJudged self.old.desk → DeskJudged self.new.desk }
     {
         if learns {
             part_each(self.desk.services.as_mut_slice(), last, watch);
+            self.desk.forget();
             return;
         }
+        self.desk.look_up(last.packet);
     }
 
     /// Counts the packet that came last.

@@ -1,4 +1,4 @@
-use Rattle.std.proofs.Common.{sym, subst}
+use Rattle.std.proofs.Common.{refl, sym, subst}
 use Rattle.chain_services.specs.Serving.{CountsReplies}
 use Rattle.chain_services.proofs.ServingLemmas.{counts_last}
 use Rattle.services_on_air.proofs.desk.AirDeskJudge.ask.Goals as goal
@@ -11,4 +11,6 @@ returns g c = record {
       let now = c.counted-self.result in
       let before = subst (λ n. CountsReplies n.messages n.accepted n.refused rs) (sym c.judge-reply.ensures.counts) h in
       counts_last now.messages now.accepted now.refused c.judge-reply.result rs (c.counted-self.ensures rs before);
+  owners = c.judge-reply.ensures.owners;
+  asks = refl;
 }

@@ -15,6 +15,7 @@ returns-clause-stands c =
       is_empty = refl;
       shares = refl;
       begun = refl;
+      quiet = stands.injector.news;
     }
 
 pub returns-clause-gone : goal.returns-clause-gone

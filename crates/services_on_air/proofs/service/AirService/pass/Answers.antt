@@ -42,3 +42,6 @@ returns-clause-out g c = λ t gone start ps filed h is_held.
     let holds = g.K.PacketSink.holds c.args.out.now start in
     IfOk-weaker c.pass_and_tell-2.result _ _ (λ passed k. (k.1, subst (λ b. holds (ps ++ put_own b t a gone)) (sym k.0) (subst holds (sym (append-nil ps)) is_held)))
     (c.pass_and_tell-2.ensures.out t gone None [] filed h tt)
+
+pub returns-then-overlooks-clause-left : goal.returns-then-overlooks-clause-left
+returns-then-overlooks-clause-left g c = c.beside.ensures.left ∙ sym c.if-not-self.true

@@ -1,6 +1,6 @@
 use Rattle.std.proofs.Common.{rules, ◌≡◌, true, false, ◌++◌, refl, sym, subst, ◌∙◌}
 use Rattle.std.proofs.lemmas.List.{append-nil}
-use Rattle.std.proofs.lemmas.Result.{on_ok_weaker}
+use Rattle.std.proofs.lemmas.Result.{on_ok_weaker, IfOk-weaker}
 use Rattle.program_follower.specs.Purposes.{writing_cues}
 use Rattle.on_air.specs.AirRuns.{newest}
 use Rattle.services_on_air.specs.Standing.{IsSettled}
@@ -95,3 +95,38 @@ returns-in-BeginsAnew-clause-out g c = λ a t gone start ps st filed h is_held.
     let moved = same-gone c.args.self.now now t gone judged.service judged.kept.0 judged.kept.1 judged.kept.2 h in
     let call = c.settle_anew-in-BeginsAnew in
     on_ok_weaker call.result (settled-anew call.new.self t gone (begins_anew p a) (λ l. g.K.PacketSink.holds call.new.out start (ps ++ l)) yes) (call.ensures.out t gone start ps filed moved is_held)
+
+pub returns-then-self-clause-anew : goal.returns-then-self-clause-anew
+returns-then-self-clause-anew g c = λ a st. sym (first-not-anew c.args.next.packet.now a (sym st.is_empty ∙ c.if-self.true))
+
+pub returns-then-self-2-clause-anew : goal.returns-then-self-2-clause-anew
+returns-then-self-2-clause-anew g c = λ a st.
+    let p = c.args.next.packet.now in
+    let yes = is-anew p a (sym st.is_empty ∙ c.if-self.false) (next-shares p a (sym st.shares ∙ c.if-self-2.true)) in
+    IfOk-weaker c.settle_anew.result _ _ (λ b is. is ∙ sym yes) c.settle_anew.ensures.anew
+
+pub returns-in-Judged-clause-anew : goal.returns-in-Judged-clause-anew
+returns-in-Judged-clause-anew g c = λ a st.
+    let p = c.args.next.packet.now in
+    let now = c.judge.new.self in
+    let becomes = c.judge.ensures.becomes a.config (newest a.stretches) st.config st.marks st.followed in
+    let goes = goes-on c.judge.result now.marks (writing_cues a.config) p a.stretches true (sym st.is_empty ∙ c.if-self.false) becomes (search rules) (λ fault is. search rules) in
+    sym (not-anew p a now true (sym st.shares ∙ c.if-self-2.false) goes)
+
+pub returns-in-Unjudged-clause-anew : goal.returns-in-Unjudged-clause-anew
+returns-in-Unjudged-clause-anew g c = λ a st.
+    let p = c.args.next.packet.now in
+    let now = c.judge.new.self in
+    let becomes = c.judge.ensures.becomes a.config (newest a.stretches) st.config st.marks st.followed in
+    let goes = goes-on c.judge.result now.marks (writing_cues a.config) p a.stretches false (sym st.is_empty ∙ c.if-self.false) becomes (search rules) (λ fault is. search rules) in
+    sym (not-anew p a now false (sym st.shares ∙ c.if-self-2.false) goes)
+
+pub returns-in-BeginsAnew-clause-anew : goal.returns-in-BeginsAnew-clause-anew
+returns-in-BeginsAnew-clause-anew g c = λ a st.
+    let p = c.args.next.packet.now in
+    let now = c.judge.new.self in
+    let some = sym st.is_empty ∙ c.if-self.false in
+    let becomes = c.judge.ensures.becomes a.config (newest a.stretches) st.config st.marks st.followed in
+    let anew = begins-new c.judge.result now.marks (writing_cues a.config) p a.stretches c.in-BeginsAnew.fault some becomes (search rules) in
+    let yes = is-anew p a some (next-begins p a (sym st.shares ∙ c.if-self-2.false) anew) in
+    IfOk-weaker c.settle_anew-in-BeginsAnew.result _ _ (λ b is. is ∙ sym yes) c.settle_anew-in-BeginsAnew.ensures.anew

@@ -1,6 +1,9 @@
 use Rattle.std.proofs.Common.{suc, ◌+◌, ◌++◌, length}
 use Rattle.services_on_air.specs.Airing.{nexts, airings}
+use Rattle.std.proofs.Common.{sym, subst}
+use Rattle.services_on_air.specs.Owners.{HasOwnersAhead}
 use Rattle.services_on_air.proofs.PassLemmas.{asked-all}
+use Rattle.services_on_air.proofs.OwnerLemmas.{owners-stay, heard-left}
 use Rattle.services_on_air.proofs.HeardLemmas.{heard}
 use Rattle.services_on_air.proofs.services.AirServices.hear.Goals as goal
 
@@ -15,6 +18,8 @@ returns-clause-stands g c = λ cs p past h.
       all = asked-all c.args.self.now.desk c.listen.new.judge _ rs p (nexts p (airings cs past)) replied.judged h.all;
       packets = h.packets;
       unjudged = h.unjudged;
+      owners = subst (λ o. HasOwnersAhead o (nexts p (airings cs past))) (sym (owners-stay c.args.self.now.desk c.listen.new.judge _ rs replied.judged)) h.owners;
+      left = heard-left c.args.self.now.desk c.listen.new.judge _ rs p (nexts p (airings cs past)) replied.judged h.left;
     }
 
 pub returns-clause-heard : goal.returns-clause-heard

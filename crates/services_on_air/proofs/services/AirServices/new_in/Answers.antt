@@ -4,6 +4,9 @@ use Rattle.std.proofs.Common.{ap, ◌∙◌}
 use Rattle.std.specs.Option.{option_copied}
 use Rattle.services_on_air.proofs.TogetherLemmas.{first-index}
 use Rattle.services_on_air.specs.Serving.{AllGone}
+use Rattle.std.proofs.Common.{◌≡◌, true, false}
+use Rattle.services_on_air.specs.Owners.{IsBeside}
+use Rattle.services_on_air.proofs.OwnerLemmas.{all-take}
 use Rattle.services_on_air.proofs.services.AirServices.new_in.Goals as goal
 
 pub returns-clause-ok : goal.returns-clause-ok
@@ -15,6 +18,8 @@ returns-clause-ok g c = record {
   all = c.in-Ok-add_services.ensures.stands [] (subst (λ l. AllStand l []) (sym c.new-services.ensures.items) tt);
   packets = refl;
   unjudged = refl;
+  owners = all-take IsBeside c.new-2.result _ c.new-2.ensures;
+  judged = λ quiet. absurd (let no : true ≡ false = quiet in cc);
 }
 
 pub returns-clause-begins : goal.returns-clause-begins

@@ -16,7 +16,7 @@ returns-in-Ok-pass_settled-clause-stands g c = λ cs past h many.
     let counted = c.count.ensures in
     let parted = c.part.ensures in
     stands-next c.pass_settled.new.self c.count.new.self c.part.new.self cs p past c.in-Ok-pass_settled.passed passed counted.packets counted.unjudged counted.others.0 counted.others.1
-    parted.all parted.others.0 parted.others.1 parted.others.2
+    parted.all parted.owners parted.judged parted.others.0 parted.others.1 parted.others.2
 
 pub returns-in-Ok-pass_settled-clause-out : goal.returns-in-Ok-pass_settled-clause-out
 returns-in-Ok-pass_settled-clause-out g c = λ ts past before start first apart stood filed h.
