@@ -11,3 +11,4 @@ mod BesideLemmas
 mod OwnerLemmas
 mod StayLemmas
 mod FrontLemmas
+mod AloneLemmas

@@ -79,13 +79,13 @@ is-left r all takers is y =
 pub left-so : (r all : Bool) (takers : ℕ) → r ≡ (not all && (takers % 2 == 0)) → all ≡ false → takers % 2 ≡ 0 → r ≡ true
 left-so r all takers is none bit = is ∙ left-whole all (takers % 2 == 0) none (ap (λ n. n == 0) bit)
 
-may-first : (l : List AirService) (s : AirService) (ss : List AirService) (xs : List Airing) (a : Airing) (more : List Airing) (takers pid : ℕ) → l ≡ s ∷ ss → xs ≡ a ∷ more
+pub may-first : (l : List AirService) (s : AirService) (ss : List AirService) (xs : List Airing) (a : Airing) (more : List Airing) (takers pid : ℕ) → l ≡ s ∷ ss → xs ≡ a ∷ more
     → MayAllStay takers l pid xs → (takers % 2 ≡ 0 → MayStay s pid a) × MayAllStay (takers / 2) ss pid more
 may-first l s ss xs a more takers pid shape parts h =
     let k = subst (λ w. MayAllStay takers w pid (a ∷ more)) shape (subst (MayAllStay takers l pid) parts h) in
     (λ bit. (k.0.0 bit, k.1.0), (k.0.1, k.1.1))
 
-left-first : (l : List AirService) (s : AirService) (ss : List AirService) (xs : List Airing) (a : Airing) (more : List Airing) (takers pid : ℕ) → l ≡ s ∷ ss → xs ≡ a ∷ more
+pub left-first : (l : List AirService) (s : AirService) (ss : List AirService) (xs : List Airing) (a : Airing) (more : List Airing) (takers pid : ℕ) → l ≡ s ∷ ss → xs ≡ a ∷ more
     → AreLeftOut takers l pid xs → (takers % 2 ≡ 0 → IsLeftOut s pid a) × AreLeftOut (takers / 2) ss pid more
 left-first l s ss xs a more takers pid shape parts h = subst (λ w. AreLeftOut takers w pid (a ∷ more)) shape (subst (AreLeftOut takers l pid) parts h)
 

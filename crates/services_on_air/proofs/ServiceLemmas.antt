@@ -44,6 +44,10 @@ goes-on answer m c p (past ∷ earlier) b some h is never = by_verdict (verdict 
   by_verdict (Is Jumped) v h = made Jumped v (sym (ap is_judged_by h.0)) h.1
   by_verdict (BeginsNew fault) v h = absurd (never fault h.0)
 
+-- as behind each packet that is just judged
+pub judges-on : (m : Marks) (c : Purpose) (p : List ℕ) (ss : List (List Entry)) → has_no ss ≡ false → Becomes verdicts.Judged m c p (newest ss) → GoesOn m c p ss true
+judges-on m c p ss some h = goes-on verdicts.Judged m c p ss true some h refl (λ fault is. absurd (cc))
+
 -- where one does
 pub begins-new : (answer : Verdict) (m : Marks) (c : Purpose) (p : List ℕ) (ss : List (List Entry)) (fault : NetworkFault) → has_no ss ≡ false → Becomes answer m c p (newest ss)
     → answer ≡ verdicts.BeginsAnew fault → with_next c p ss ≡ (first_entry c p ∷ []) ∷ ss

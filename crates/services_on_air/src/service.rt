@@ -244,13 +244,64 @@ impl AirService {
         }
     }
 
+    /// The next packet is judged, and its stretch goes on with it: nothing is wrong with the packet, and nothing is kept of packets that were left
+    /// unjudged. So it is of nearly all packets.
+    #[inline(always)]
+    fn just_judges(&self, packet: &Packet) -> bool
+        ensures becomes { (c : Config) (past : List Entry) → self.now.service.config ≡ c → Keeps self.now.marks (writing_cues c) past
+            → HasFollowed self.now.service c (as_read past) → result ≡ true → Becomes Verdict.Judged self.now.marks (writing_cues c) packet.now past }
+        ensures goes_on { result ≡ true → (self.now.is_empty ≡ false) × (self.now.shares ≡ false) }
+    {
+        if self.is_empty {
+            return false;
+        }
+        if self.shares {
+            return false;
+        }
+        if self.marks.has_any() {
+            return false;
+        }
+        self.service.look(packet).is_none()
+    }
+
     /// Settles what becomes of the next packet, before the messages that come before it are heard: a stretch that begins anew with it begins
     /// here. Whether one does.
     ///
     /// # Errors
     ///
     /// The sink's.
+    #[inline(always)]
     pub(crate) fn settle<K: PacketSink, A: ServicesWatch>(
+        &mut self,
+        next: Numbered<'_>,
+        library: &AdLibrary,
+        out: &mut K,
+        watch: &mut A,
+    ) -> Result<bool, PutFault>
+        ensures leads { K.leads out.old out.new }
+        ensures stands { (a : Airing) → AirStandsFor self.old a
+            → OnOk result (IsSettled self.new next.entry.packet.now (next_of next.entry.packet.now a)) }
+        ensures out { (a : Airing) (t : ServiceTerms) (g : Gone) (start : Option (List ℕ)) (ps : List (List ℕ)) → AirStandsFor self.old a
+            → held library.now ≡ t.filed → HasGone self.old t g → K.holds out.old start ps
+            → OnOk result (HasGone self.new t (gone_settled t (begins_anew next.entry.packet.now a) g)
+            × K.holds out.new start (ps ++ put_settled t (begins_anew next.entry.packet.now a) g)) }
+        ensures anew { (a : Airing) → AirStandsFor self.old a → IfOk result (λ is_anew. is_anew ≡ begins_anew next.entry.packet.now a) }
+    {
+        if self.just_judges(next.packet) {
+            self.is_unjudged = false;
+            return Ok(false);
+        }
+        self.settle_closely(next, library, out, watch)
+    }
+
+    /// Does what [`AirService::settle`] does, for any packet.
+    ///
+    /// # Errors
+    ///
+    /// The sink's.
+    #[cold]
+    #[inline(never)]
+    fn settle_closely<K: PacketSink, A: ServicesWatch>(
         &mut self,
         next: Numbered<'_>,
         library: &AdLibrary,
@@ -346,6 +397,7 @@ impl AirService {
     }
 
     /// Keeps a judged packet that brings a part of a section of its map.
+    #[inline(always)]
     fn keep(&mut self, packet: &Packet)
         ensures service { self.new.service ≡ self.old.service }
         ensures others { (self.new.marks ≡ self.old.marks) × (self.new.is_unjudged ≡ self.old.is_unjudged)
@@ -364,6 +416,7 @@ impl AirService {
     }
 
     /// Passes the packet on that was settled. One that is left unjudged goes out as it came, but for its continuity_counter.
+    #[inline(always)]
     fn pass_to<K: PacketSink>(
         &mut self,
         packet: &Packet,
@@ -389,6 +442,7 @@ impl AirService {
     }
 
     /// Passes the packet on that was settled, and tells what it is: of its own or not, where so many PIDs were known of it before.
+    #[inline(always)]
     fn pass_and_tell<K: PacketSink>(
         &mut self,
         is_own: bool,

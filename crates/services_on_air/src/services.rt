@@ -167,6 +167,45 @@ fn settle_each<K: PacketSink, A: ServicesWatch>(
     }
 }
 
+/// Settles for the first of these services, which alone takes it, what becomes of the next packet. It looks at no other one, and so calls itself
+/// not.
+///
+/// # Errors
+///
+/// The sink's.
+#[inline(never)]
+fn settle_first<K: PacketSink, A: ServicesWatch>(
+    services: &mut [AirService],
+    libraries: &[AdLibrary],
+    next: Numbered<'_>,
+    out: &mut K,
+    watch: &mut A,
+) -> Result<bool, PutFault>
+    ensures leads { K.leads out.old out.new }
+    ensures stands { (xs : List Airing) → AllStand services.old xs → length libraries.now ≡ length xs
+        → MayAllStay 1 services.old (pid_of next.entry.packet.now) xs
+        → OnOk result (AllSettled services.new next.entry.packet.now (nexts next.entry.packet.now xs)) }
+    ensures anew { (xs : List Airing) → AllStand services.old xs → length libraries.now ≡ length xs
+        → MayAllStay 1 services.old (pid_of next.entry.packet.now) xs
+        → IfOk result (λ is_anew. is_anew ≡ list_any (begins_anew next.entry.packet.now) xs) }
+    ensures left { (xs : List Airing) → AllStand services.old xs → length libraries.now ≡ length xs
+        → MayAllStay 1 services.old (pid_of next.entry.packet.now) xs
+        → OnOk result (AreLeftOut 1 services.new (pid_of next.entry.packet.now) (nexts next.entry.packet.now xs)) }
+    ensures out { (xs : List Airing) (ts : List ServiceTerms) (gs : List Gone) (start : Option (List ℕ)) (ps : List (List ℕ))
+        → AllStand services.old xs → MayAllStay 1 services.old (pid_of next.entry.packet.now) xs
+        → FiledAs libraries.now ts → AllGone services.old ts gs → K.holds out.old start ps
+        → OnOk result (AllGone services.new ts (gones_settled ts next.entry.packet.now xs gs)
+        × K.holds out.new start (ps ++ puts_settled ts next.entry.packet.now xs gs)) }
+{
+    let Some((service, _others)) = services.split_first_mut() else {
+        return Ok(false);
+    };
+    let Some((library, _behind)) = libraries.split_first() else {
+        return Ok(false);
+    };
+    service.settle(next, library, out, watch)
+}
+
 /// Does what [`settle_each`] does, and begins with the first of these services that takes the packet.
 ///
 /// # Errors
@@ -207,6 +246,9 @@ fn settle_some<K: PacketSink, A: ServicesWatch>(
     let shift = shift_of(takers, services.len().min(libraries.len()));
     let (_, services) = services.split_at_mut(shift.count);
     let (_, libraries) = libraries.split_at(shift.count);
+    if shift.takers == 1 {
+        return settle_first(services, libraries, next, out, watch);
+    }
     settle_each(false, shift.takers, services, libraries, next, out, watch)
 }
 
@@ -288,6 +330,41 @@ fn pass_each<K: PacketSink>(
     }
 }
 
+/// Passes a packet on through the first of these services, which alone takes it. It looks at no other one, and so calls itself not.
+///
+/// # Errors
+///
+/// The sink's.
+#[inline(never)]
+fn pass_first<K: PacketSink>(
+    services: &mut [AirService],
+    libraries: &[AdLibrary],
+    packet: &Packet,
+    out: &mut K,
+) -> Result<Passed, PutFault>
+    ensures leads { K.leads out.old out.new }
+    ensures stands { (xs : List Airing) → AllSettled services.old packet.now xs → length libraries.now ≡ length xs
+        → AreLeftOut 1 services.old (pid_of packet.now) xs
+        → IfOk result (λ passed. AllStand services.new xs × ArePassed passed packet.now xs) }
+    ensures judged { (xs : List Airing) → AllSettled services.old packet.now xs → length libraries.now ≡ length xs
+        → AreLeftOut 1 services.old (pid_of packet.now) xs
+        → IfOk result (λ passed. passed.has_left ≡ false → AllJudged services.new) }
+    ensures out { (ys : List Airing) (ts : List ServiceTerms) (gs : List Gone) (start : Option (List ℕ)) (ps : List (List ℕ))
+        → AllSettled services.old packet.now ys → AreLeftOut 1 services.old (pid_of packet.now) ys
+        → FiledAs libraries.now ts → AllGone services.old ts gs → K.holds out.old start ps
+        → OnOk result (AllGone services.new ts (gones_on ts packet.now ys gs)
+        × K.holds out.new start (ps ++ puts_on ts packet.now ys gs)) }
+{
+    of_bytes(packet);
+    let Some((service, _others)) = services.split_first_mut() else {
+        return Ok(Passed::beside());
+    };
+    let Some((library, _behind)) = libraries.split_first() else {
+        return Ok(Passed::beside());
+    };
+    service.pass(packet, library, out)
+}
+
 /// Does what [`pass_each`] does, and begins with the first of these services that takes the packet.
 ///
 /// # Errors
@@ -325,6 +402,9 @@ fn pass_some<K: PacketSink>(
     let shift = shift_of(takers, services.len().min(libraries.len()));
     let (_, services) = services.split_at_mut(shift.count);
     let (_, libraries) = libraries.split_at(shift.count);
+    if shift.takers == 1 {
+        return pass_first(services, libraries, packet, out);
+    }
     pass_each(false, shift.takers, services, libraries, packet, out)
 }
 
@@ -368,6 +448,7 @@ fn finish_each<K: PacketSink, A: ServicesWatch>(
 }
 
 /// Shows each of these services behind a packet that has passed, where that is asked for.
+#[inline(always)]
 fn show_each<A: ServicesWatch>(
     services: &[AirService],
     libraries: &[AdLibrary],
@@ -473,6 +554,7 @@ impl<M: Allocator> AirServices<M> {
     /// # Errors
     ///
     /// The sink's.
+    #[inline(always)]
     fn settle<K: PacketSink, A: ServicesWatch>(
         &mut self,
         next: Numbered<'_>,
@@ -503,6 +585,7 @@ impl<M: Allocator> AirServices<M> {
     }
 
     /// Hears the automation before the packet that is settled.
+    #[inline(always)]
     fn hear<U: Automation>(&mut self, automation: &mut U)
         ensures stands { (cs : List Config) (p : List ℕ) (past : List (List ℕ)) → AreSettled self.old cs p past
             → AreSettled self.new cs p past }
@@ -520,6 +603,7 @@ impl<M: Allocator> AirServices<M> {
     /// # Errors
     ///
     /// The sink's.
+    #[inline(always)]
     fn pass_settled<K: PacketSink>(
         &mut self,
         packet: &Packet,
@@ -556,6 +640,7 @@ impl<M: Allocator> AirServices<M> {
 
     /// Where with the packet that came last more PIDs are known, ends the stretches of services that share one, and forgets which services take the
     /// packets of each PID. Where none are, looks that up for its PID.
+    #[inline(always)]
     fn part<A: ServicesWatch>(&mut self, learns: bool, last: Numbered<'_>, watch: &mut A)
         ensures all { (xs : List Airing) → AllStand self.old.desk.services.items xs
             → AllStand self.new.desk.services.items (if learns then parted xs else xs) }
@@ -575,6 +660,7 @@ impl<M: Allocator> AirServices<M> {
     }
 
     /// Counts the packet that came last.
+    #[inline(always)]
     fn count<A: ServicesWatch>(&mut self, is_unjudged: bool, watch: &mut A)
         ensures packets { self.new.packets ≡ capped (self.old.packets + 1) }
         ensures unjudged { self.new.unjudged ≡ (if is_unjudged then capped (self.old.unjudged + 1) else self.old.unjudged) }
@@ -592,6 +678,7 @@ impl<M: Allocator> AirServices<M> {
     /// # Errors
     ///
     /// The sink's.
+    #[inline(always)]
     pub(crate) fn pass<U: Automation, K: PacketSink, A: ServicesWatch>(
         &mut self,
         packet: &Packet,
