@@ -92,8 +92,15 @@ impl<'a, A, W: Watch> SeenServices<'a, A, W> {
             Some(sight) if sight.program == program => place,
             _ => self.find(program),
         };
-        self.next = place.saturating_add(1);
+        self.turn_behind(place);
         place
+    }
+
+    /// The service behind that of this place is in turn, or the first one behind the last.
+    #[inline(always)]
+    fn turn_behind(&mut self, place: usize) {
+        let next = place.saturating_add(1);
+        self.next = if next < self.services.len() { next } else { 0 };
     }
 
     /// Looks it up among all, and adds it where it is not there.
@@ -108,6 +115,48 @@ impl<'a, A, W: Watch> SeenServices<'a, A, W> {
         sight.tracker = Tracker::new(self.is_detailed);
         let _ = self.services.try_push(sight);
         self.services.len().saturating_sub(1)
+    }
+
+    /// Nothing has turned in the service whose turn it is, and of which nothing is to be found any more.
+    #[inline(always)]
+    fn is_up_to_date(&self, service: &Service) -> bool {
+        match self.services.get(self.next) {
+            Some(sight) => {
+                sight.is_found
+                    && sight.program == service.config().program
+                    && sight.tracker.is_up_to_date(service.switch())
+            }
+            None => false,
+        }
+    }
+
+    /// Looks at a service that is shown.
+    #[inline(never)]
+    fn look(&mut self, service: &Service, library: &AdLibrary, shown: Shown<'_>) {
+        if !self.is_on {
+            return;
+        }
+        let program = service.config().program;
+        let place = self.place_of(program);
+        let site = Site {
+            service: Some(program),
+            packet: match shown {
+                Shown::Last => self.passed,
+                _ => self.packet,
+            },
+        };
+        let (packet, has_news) = match shown {
+            Shown::Judged(packet) => (Some(packet), self.has_news),
+            Shown::Unjudged => (None, self.has_news),
+            Shown::Last => (None, true),
+        };
+        let taken = Taken { packet, has_news };
+        if let Some(sight) = self.services.get_mut(place) {
+            sight.is_found = sight.is_found || service.pid_count() > 0;
+            sight
+                .tracker
+                .look(service.switch(), library, taken, site, &mut self.watch);
+        }
     }
 
     /// Tells of the programs that were not found in the whole network.
@@ -149,31 +198,15 @@ impl<A: ServicesWatch, W: Watch> ServicesWatch for SeenServices<'_, A, W> {
         self.has_news || packet.unit_start()
     }
 
+    #[inline(always)]
     fn shown(&mut self, service: &Service, library: &AdLibrary, shown: Shown<'_>) {
-        if !self.is_on {
-            return;
+        if !self.has_news && self.is_up_to_date(service) {
+            if let Shown::Judged(_) = shown {
+                self.turn_behind(self.next);
+                return;
+            }
         }
-        let program = service.config().program;
-        let place = self.place_of(program);
-        let site = Site {
-            service: Some(program),
-            packet: match shown {
-                Shown::Last => self.passed,
-                _ => self.packet,
-            },
-        };
-        let (packet, has_news) = match shown {
-            Shown::Judged(packet) => (Some(packet), self.has_news),
-            Shown::Unjudged => (None, self.has_news),
-            Shown::Last => (None, true),
-        };
-        let taken = Taken { packet, has_news };
-        if let Some(sight) = self.services.get_mut(place) {
-            sight.is_found = sight.is_found || service.pid_count() > 0;
-            sight
-                .tracker
-                .look(service.switch(), library, taken, site, &mut self.watch);
-        }
+        self.look(service, library, shown);
     }
 
     fn ended(&mut self, program: u16, report: &SwitchReport, lost: u64) {

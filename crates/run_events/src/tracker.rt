@@ -154,6 +154,13 @@ impl Tracker {
         }
     }
 
+    /// Nothing has turned in the switch since it was looked at, and no break is waited for.
+    #[inline(always)]
+    pub(crate) fn is_up_to_date(&self, switch: &Switch) -> bool {
+        let turns = switch.turns();
+        self.turns == turns && turns < u64::MAX && self.awaited.is_empty()
+    }
+
     /// Looks at a switch behind a packet that it took. It looks at no event where nothing has turned.
     #[inline(always)]
     pub(crate) fn look<W: Watch>(
@@ -168,11 +175,10 @@ impl Tracker {
             (self.new.settled.not_fitted - self.old.settled.not_fitted)
             (self.new.settled.unconditioned - self.old.settled.unconditioned) watch.new }
     {
-        let turns = switch.turns();
-        if self.turns == turns && turns < u64::MAX && !taken.has_news && self.awaited.is_empty() {
+        if self.is_up_to_date(switch) && !taken.has_news {
             return;
         }
-        self.turns = turns;
+        self.turns = switch.turns();
         self.look_closely(switch, library, taken, site, watch);
     }
 
