@@ -33,8 +33,9 @@ use Rattle.run_ends.specs.declared.attended.LastFlush.{LastFlush}
 use Rattle.run_ends.specs.declared.attended.LastFlush.TheVariants as flush
 use Rattle.run_ends.specs.declared.attended.LastFlush.TheVariants.{Done}
 use Rattle.passages.specs.Runs.{told_fault}
-use Rattle.passages.specs.Stops.{OfAsked, SaysOfInput}
+use Rattle.passages.specs.Stops.{OfAsked, SaysOfInput, SaysOfRun}
 use Rattle.passages.specs.declared.fault.ProgramFault.{ProgramFault}
+use Rattle.passages.specs.declared.fault.ProgramFault.TheVariants.{Unflushed}
 use Rattle.passages.specs.declared.running.Ran.{Ran}
 use Rattle.passages.specs.declared.tell.Side.{Side}
 use Rattle.passages.specs.declared.tell.Stopped.{Stopped}
@@ -91,6 +92,16 @@ told_err (Ok x) (Ok ran) side reason seen is_flushed said e f k h = tt
 told_err (Ok x) (Err stopped) side reason seen is_flushed said e f k h = absurd e
 told_err (Err fault) (Ok ran) side reason seen is_flushed said e f k h = tt
 told_err (Err fault) (Err stopped) side reason seen is_flushed said e f k h = λ is. subst said (sym f.0) (h (sym k ∙ is))
+
+-- and what its fault says, whether its output was flushed or not
+pub told_says : {T : Type 0} (o : Result T ProgramFault) (r : Result (Ran T) Stopped) (side : ProgramFault → Side) (reason : ProgramFault → Option Error) (seen : Option Watch)
+    (stops : ProgramFault → Option (List ℕ) → OfPackets → OfPut → OfSending → Type 0) (input : Option (List ℕ))
+    → IfOk o (λ report. IsOkAnd r (λ ran. ran.report ≡ report)) → IfErr o (λ fault. IsErrAnd r (IsStoppedWith fault (side fault) (reason fault) seen))
+    → IfErr o (λ fault. (fault ≡ Unflushed) ⊎ SaysOfInput (stops fault) input) → IfErr r (λ stopped. SaysOfRun stops stopped.fault input)
+told_says (Ok x) (Ok ran) side reason seen stops input e f h = tt
+told_says (Ok x) (Err stopped) side reason seen stops input e f h = absurd e
+told_says (Err fault) (Ok ran) side reason seen stops input e f h = tt
+told_says (Err fault) (Err stopped) side reason seen stops input e f h = subst (λ k. SaysOfRun stops k input) (sym f.0) (inr h)
 
 -- what follows from what is said of an answer
 pub if_ok_so : {T E : Type 0} (r : Result T E) (said said' : T → Type 0) → ((x : T) → said x → said' x) → IfOk r said → IfOk r said'

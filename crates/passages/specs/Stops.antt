@@ -1,5 +1,5 @@
 -- What a passage says that stopped, by its fault: of the network's bytes, and of the packets that are out.
-use Rattle.std.specs.Prelude.{ℕ, List, [], Option}
+use Rattle.std.specs.Prelude.{◌≡◌, ◌⊎◌, ℕ, List, [], Option}
 use Rattle.ts_packet.specs.Sinks.{Written, FailsToWrite}
 use Rattle.packet_runs.specs.Devices.{OfPackets, OfPut, OfSending}
 use Rattle.unit_cut.specs.Runs.{Stops}
@@ -92,3 +92,8 @@ StopsInLines stops input start now =
 -- what a passage that stopped says of the network's bytes, whatever became of its packets
 abbrev pub SaysOfInput : (Option (List ℕ) → OfPackets → OfPut → OfSending → Type 0) → Option (List ℕ) → Type 0
 SaysOfInput stops input = stops input (λ ps. Unit {0}) (λ ps p fault. Unit {0}) (λ ps fault. Unit {0})
+
+-- what the fault of a run says, also where its output could not be flushed behind it: memory was refused for a buffer, or the output could not be
+-- flushed at the end; or it is the passage's, and true of the network's bytes
+abbrev pub SaysOfRun : (ProgramFault → Option (List ℕ) → OfPackets → OfPut → OfSending → Type 0) → ProgramFault → Option (List ℕ) → Type 0
+SaysOfRun stops fault input = (fault ≡ OutOfMemory) ⊎ ((fault ≡ Unflushed) ⊎ SaysOfInput (stops fault) input)

@@ -6,7 +6,7 @@ ghost use Rattle.ad_library.specs.Library.{held};
 ghost use Rattle.chain_laws.specs.Exactly.{RanExactly};
 ghost use Rattle.chain_laws.specs.Headline.{Headline};
 ghost use Rattle.passages.specs.Runs.{AskerTells, PlaysStop};
-ghost use Rattle.passages.specs.Stops.{AskedStops, StopsAtDevice};
+ghost use Rattle.passages.specs.Stops.{AskedStops, StopsAtDevice, SaysOfRun};
 
 use crate::asking::Asker;
 use crate::kinds::Chaining;
@@ -53,6 +53,9 @@ where
     ensures stopped { IfErr result (λ stopped. stopped.is_flushed ≡ true → StopsAtDevice
         (AskedStops (PlaysStop options.now.config (held library.now) (AskerTells W.contents asker.old asker.new)) stopped.fault)
         (R.remaining input) (O.contents output.old) (O.contents output.new)) }
+    ensures says { IfErr result (λ stopped. SaysOfRun
+        (AskedStops (PlaysStop options.now.config (held library.now) (AskerTells W.contents asker.old asker.new))) stopped.fault
+        (R.remaining input)) }
     ensures unwatched { IfOk result (λ ran. watched ≡ None → ran.seen ≡ None) }
 {
     let passage = Chaining {

@@ -7,7 +7,7 @@ ghost use Rattle.ts_packet.specs.Transfers.{no_tally};
 ghost use Rattle.passages.specs.Runs.{PassesAll};
 ghost use Rattle.run_ends.specs.Flushes.{is_done};
 ghost use Rattle.run_ends.specs.declared.attended.LastFlush.TheVariants.{Done};
-ghost use Rattle.passages.specs.Stops.{StopsAtDevice, SaysOfInput};
+ghost use Rattle.passages.specs.Stops.{StopsAtDevice, SaysOfInput, SaysOfRun};
 ghost use Rattle.passages.specs.Stopping.{side_of, IsStoppedWith, IsStoppedUnopened};
 
 use crate::fault::ProgramFault;
@@ -382,6 +382,7 @@ pub fn run_from<A, S: Passage<A>, R: Read + Drop, O: Write>(
     ensures stopped { IfErr result (λ stopped. stopped.is_flushed ≡ true
         → StopsAtDevice (S.stops passage asker.old asker.new stopped.fault) (R.remaining input) (O.contents output.old)
         (O.contents output.new)) }
+    ensures says { IfErr result (λ stopped. SaysOfRun (S.stops passage asker.old asker.new) stopped.fault (R.remaining input)) }
     ensures unwatched { IfOk result (λ ran. watched ≡ None → ran.seen ≡ None) }
 {
     let Ok(reader) = BufReader::with_capacity(alloc, BUFFER_SIZE, Attended::new(input)) else {

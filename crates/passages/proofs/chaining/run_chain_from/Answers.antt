@@ -13,5 +13,6 @@ returns g c =
       headline = IfOk-weaker c.run_from.result _ _ (λ ran done. headline_so c.args.library.now c.args.options.now.config input is_out tells ran.report done) c.run_from.ensures.done;
       exactly = IfOk-weaker c.run_from.result _ _ (λ ran done. exactly_so c.args.library.now c.args.options.now.config input is_out tells ran.report done) c.run_from.ensures.done;
       stopped = c.run_from.ensures.stopped;
+      says = c.run_from.ensures.says;
       unwatched = c.run_from.ensures.unwatched;
     }
