@@ -1,6 +1,6 @@
 //! Runs of `services` by the program: command lines, what is printed, and files that are refused.
 
-use crate::runs::*;
+use crate::services::runs::*;
 use ad_library::AdLibrary;
 use chain_services::Services;
 use dpi_program::program::program;
@@ -125,17 +125,17 @@ fn named<R: Env + AllocGlobal>(rt: &R, name: &str) -> Result<PathBuf, Fail> {
 
 #[test]
 fn two_services_play_and_are_told_in_their_order(rt: HostRuntime) -> Result<(), Fail> {
-    let network = named(&rt, "service_tests_network.ts")?;
+    let network = named(&rt, "program_tests_services_network.ts")?;
     let network = network.to_str().ok_or("a name")?;
-    let advert = named(&rt, "service_tests_advert.ts")?;
+    let advert = named(&rt, "program_tests_services_advert.ts")?;
     let advert = advert.to_str().ok_or("a name")?;
-    let adverts = named(&rt, "service_tests_list.txt")?;
+    let adverts = named(&rt, "program_tests_services_list.txt")?;
     let adverts = adverts.to_str().ok_or("a name")?;
-    let services = named(&rt, "service_tests_services.txt")?;
+    let services = named(&rt, "program_tests_services_services.txt")?;
     let services = services.to_str().ok_or("a name")?;
-    let script = named(&rt, "service_tests_script.txt")?;
+    let script = named(&rt, "program_tests_services_script.txt")?;
     let script = script.to_str().ok_or("a name")?;
-    let out = named(&rt, "service_tests_out.ts")?;
+    let out = named(&rt, "program_tests_services_out.ts")?;
     let out = out.to_str().ok_or("a name")?;
     fs::write(&rt, network, Stream::of(rt.alloc(), NETWORK)?.bytes())?;
     fs::write(&rt, advert, Stream::of(rt.alloc(), ADVERT)?.bytes())?;
@@ -243,15 +243,15 @@ fn expect_refused<'a, R: Files + Net + AllocGlobal + Abort>(
 
 #[test]
 fn what_a_list_of_services_names_is_never_destroyed(rt: HostRuntime) -> Result<(), Fail> {
-    let network = named(&rt, "service_tests_named_network.ts")?;
+    let network = named(&rt, "program_tests_services_named_network.ts")?;
     let network = network.to_str().ok_or("a name")?;
-    let stream = named(&rt, "service_tests_named_advert.ts")?;
+    let stream = named(&rt, "program_tests_services_named_advert.ts")?;
     let stream = stream.to_str().ok_or("a name")?;
-    let adverts = named(&rt, "service_tests_named_list.txt")?;
+    let adverts = named(&rt, "program_tests_services_named_list.txt")?;
     let adverts = adverts.to_str().ok_or("a name")?;
-    let services = named(&rt, "service_tests_named_services.txt")?;
+    let services = named(&rt, "program_tests_services_named_services.txt")?;
     let services = services.to_str().ok_or("a name")?;
-    let other = named(&rt, "service_tests_named_other.ts")?;
+    let other = named(&rt, "program_tests_services_named_other.ts")?;
     let other = other.to_str().ok_or("a name")?;
     let _ = fs::remove_file(&rt, other);
     let advert = Stream::of(rt.alloc(), ADVERT)?;
@@ -273,11 +273,11 @@ fn what_a_list_of_services_names_is_never_destroyed(rt: HostRuntime) -> Result<(
 
 #[test]
 fn a_bad_list_is_told_by_its_line(rt: HostRuntime) -> Result<(), Fail> {
-    let services = named(&rt, "service_tests_bad_services.txt")?;
+    let services = named(&rt, "program_tests_services_bad_services.txt")?;
     let services = services.to_str().ok_or("a name")?;
-    let adverts = named(&rt, "service_tests_bad_list.txt")?;
+    let adverts = named(&rt, "program_tests_services_bad_list.txt")?;
     let adverts = adverts.to_str().ok_or("a name")?;
-    let script = named(&rt, "service_tests_bad_script.txt")?;
+    let script = named(&rt, "program_tests_services_bad_script.txt")?;
     let script = script.to_str().ok_or("a name")?;
     fs::write(&rt, script, b"".as_slice())?;
     fs::write(&rt, adverts, b"\nx\n".as_slice())?;

@@ -1,6 +1,6 @@
 //! Whole runs of services: which breaks are played where, whose a message is, PIDs of two services, and services that are refused.
 
-use crate::runs::*;
+use crate::services::runs::*;
 use chain_engine::RunFault;
 use chain_services::{ServiceFault, Services};
 use linked_list_allocator::LocalHeap;

@@ -1,6 +1,6 @@
 //! Runs from an ordinary file, which never waits: the output is written in whole blocks.
 
-use crate::network::null_packets;
+use crate::live::network::null_packets;
 use dpi_program::program::program;
 use failing_devices::{Failing, Record, RecordedTarget};
 use std::io::Cursor;
@@ -10,7 +10,7 @@ use std::{env, fs};
 /// Blocks of 262,144 bytes at most, of whole packets: 1,394 of them, as many, and the 212 that are left.
 #[test]
 fn a_file_is_written_in_blocks(rt: HostRuntime) -> Result<(), Fail> {
-    let path = env::temp_dir(&rt)?.join(rt.alloc(), "live_tests_blocks.ts")?;
+    let path = env::temp_dir(&rt)?.join(rt.alloc(), "program_tests_live_blocks.ts")?;
     let path = path.to_str().ok_or("a path")?;
     let network = null_packets(rt.alloc(), 3_000)?;
     fs::write(&rt, path, &network)?;

@@ -111,13 +111,13 @@ For more information, try '--help'.
 #[test]
 fn a_log_is_a_file_of_its_own(rt: HostRuntime) -> Result<(), Fail> {
     let folder = env::temp_dir(&rt)?;
-    let network = folder.join(rt.alloc(), "event_program_tests_log_network.ts")?;
+    let network = folder.join(rt.alloc(), "program_tests_events_log_network.ts")?;
     let network = network.to_str().ok_or("a name")?;
-    let list = folder.join(rt.alloc(), "event_program_tests_log_list.txt")?;
+    let list = folder.join(rt.alloc(), "program_tests_events_log_list.txt")?;
     let list = list.to_str().ok_or("a name")?;
-    let out = folder.join(rt.alloc(), "event_program_tests_log_out.ts")?;
+    let out = folder.join(rt.alloc(), "program_tests_events_log_out.ts")?;
     let out = out.to_str().ok_or("a name")?;
-    let log = folder.join(rt.alloc(), "event_program_tests_log.jsonl")?;
+    let log = folder.join(rt.alloc(), "program_tests_events_log.jsonl")?;
     let log = log.to_str().ok_or("a name")?;
     fs::write(&rt, network, b"".as_slice())?;
     fs::write(&rt, list, b"\n".as_slice())?;
@@ -172,11 +172,11 @@ ignored 0
 #[test]
 fn a_log_that_cannot_be_written_is_a_fault_off_air_alone(rt: HostRuntime) -> Result<(), Fail> {
     let folder = env::temp_dir(&rt)?;
-    let network = folder.join(rt.alloc(), "event_program_tests_full_network.ts")?;
+    let network = folder.join(rt.alloc(), "program_tests_events_full_network.ts")?;
     let network = network.to_str().ok_or("a name")?;
-    let list = folder.join(rt.alloc(), "event_program_tests_full_list.txt")?;
+    let list = folder.join(rt.alloc(), "program_tests_events_full_list.txt")?;
     let list = list.to_str().ok_or("a name")?;
-    let out = folder.join(rt.alloc(), "event_program_tests_full_out.ts")?;
+    let out = folder.join(rt.alloc(), "program_tests_events_full_out.ts")?;
     let out = out.to_str().ok_or("a name")?;
     fs::write(&rt, network, b"".as_slice())?;
     fs::write(&rt, list, b"\n".as_slice())?;

@@ -1,6 +1,6 @@
 //! Lists of services: which lines are taken, where a list stops, and refused memory.
 
-use crate::runs::ADVERT;
+use crate::services::runs::ADVERT;
 use ad_lists::ListFault;
 use chain_services::ServiceFault;
 use linked_list_allocator::LocalHeap;
@@ -76,7 +76,7 @@ fn lines_are_judged(rt: HostRuntime) -> Result<(), Fail> {
 #[test]
 fn lists_of_files(rt: HostRuntime) -> Result<(), Fail> {
     let folder = env::temp_dir(&rt)?;
-    let path = folder.join(rt.alloc(), "service_tests_adverts.txt")?;
+    let path = folder.join(rt.alloc(), "program_tests_services_adverts.txt")?;
     let path = path.to_str().ok_or("a name")?;
     fs::write(&rt, path, b"".as_slice())?;
     let text = format!(in rt.alloc(); "2 497 9 {path}\n\n1 496 1 {path}")?;
@@ -153,9 +153,9 @@ fn is_refused<R: Files + Abort>(
 #[test]
 fn each_request_refused(rt: HostRuntime) -> Result<(), Fail> {
     let folder = env::temp_dir(&rt)?;
-    let advert = folder.join(rt.alloc(), "service_tests_memory.ts")?;
+    let advert = folder.join(rt.alloc(), "program_tests_services_memory.ts")?;
     let advert = advert.to_str().ok_or("a name")?;
-    let adverts = folder.join(rt.alloc(), "service_tests_memory.txt")?;
+    let adverts = folder.join(rt.alloc(), "program_tests_services_memory.txt")?;
     let adverts = adverts.to_str().ok_or("a name")?;
     let stream = Stream::of(rt.alloc(), ADVERT)?;
     fs::write(&rt, advert, stream.bytes())?;

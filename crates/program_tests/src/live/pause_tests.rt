@@ -1,7 +1,7 @@
 //! Runs whose input may pause: what came in is out before the next read, by one write at most. Both ends of a run stand in one record. The
 //! packets are null packets, which each kind of run passes on as they are.
 
-use crate::network::{expect_prompt, null_packets, pauses};
+use crate::live::network::{expect_prompt, null_packets, pauses};
 use ad_library::AdLibrary;
 use command_lines::command::CutOptions;
 use command_lines::splice_options::SpliceOptions;

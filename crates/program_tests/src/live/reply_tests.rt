@@ -1,7 +1,7 @@
 //! Replies among the packets of a run that may pause: each is given once the packet before which its message comes was read, behind all packets
 //! that came in before that read, and before anything more is read.
 
-use crate::network::{expect_prompt, null_packets, pauses};
+use crate::live::network::{expect_prompt, null_packets, pauses};
 use dpi_program::program::program;
 use failing_devices::{Failing, Moment, Record, RecordedReplies, RecordedSource, RecordedTarget};
 use std::net::Net;
@@ -62,7 +62,7 @@ fn expect_in_place<R: Files + Net + AllocGlobal + Abort>(
 
 #[test]
 fn replies_of_inject_are_in_place(rt: HostRuntime) -> Result<(), Fail> {
-    let script = env::temp_dir(&rt)?.join(rt.alloc(), "live_tests_inject.txt")?;
+    let script = env::temp_dir(&rt)?.join(rt.alloc(), "program_tests_live_inject.txt")?;
     let script = script.to_str().ok_or("a path")?;
     fs::write(&rt, script, SCRIPT.as_bytes())?;
     let words = [
@@ -87,9 +87,9 @@ fn replies_of_inject_are_in_place(rt: HostRuntime) -> Result<(), Fail> {
 
 #[test]
 fn replies_of_run_are_in_place(rt: HostRuntime) -> Result<(), Fail> {
-    let script = env::temp_dir(&rt)?.join(rt.alloc(), "live_tests_run.txt")?;
+    let script = env::temp_dir(&rt)?.join(rt.alloc(), "program_tests_live_run.txt")?;
     let script = script.to_str().ok_or("a path")?;
-    let list = env::temp_dir(&rt)?.join(rt.alloc(), "live_tests_run.list")?;
+    let list = env::temp_dir(&rt)?.join(rt.alloc(), "program_tests_live_run.list")?;
     let list = list.to_str().ok_or("a path")?;
     fs::write(&rt, script, SCRIPT.as_bytes())?;
     fs::write(&rt, list, b"")?;

@@ -1,6 +1,6 @@
 //! Breaks planned, and made by the script.
 
-use crate::streams::{Pictures, changed_stream, stream, stream_of};
+use crate::plans::streams::{Pictures, changed_stream, stream, stream_of};
 use dpi_program::program::program;
 use std::io::Cursor;
 use std::net::Net;
@@ -97,15 +97,15 @@ fn plan<'a>(network: &'a str, adverts: &'a str, breaks: &'a str, script: &'a str
 
 #[test]
 fn planned_breaks_are_made(rt: HostRuntime) -> Result<(), Fail> {
-    let network = file(&rt, "planning_tests_network.ts")?;
+    let network = file(&rt, "program_tests_plans_network.ts")?;
     let network = network.to_str().ok_or("a name")?;
-    let advert = file(&rt, "planning_tests_advert.ts")?;
+    let advert = file(&rt, "program_tests_plans_advert.ts")?;
     let advert = advert.to_str().ok_or("a name")?;
-    let adverts = file(&rt, "planning_tests_adverts.txt")?;
+    let adverts = file(&rt, "program_tests_plans_adverts.txt")?;
     let adverts = adverts.to_str().ok_or("a name")?;
-    let breaks = file(&rt, "planning_tests_breaks.txt")?;
+    let breaks = file(&rt, "program_tests_plans_breaks.txt")?;
     let breaks = breaks.to_str().ok_or("a name")?;
-    let script = file(&rt, "planning_tests_script.txt")?;
+    let script = file(&rt, "program_tests_plans_script.txt")?;
     let script = script.to_str().ok_or("a name")?;
     fs::write(&rt, network, stream(rt.alloc(), 500, 900_000)?.as_slice())?;
     fs::write(&rt, advert, stream(rt.alloc(), 50, 0)?.as_slice())?;
@@ -175,15 +175,15 @@ packet 12, byte 2256, PID 32 (0x0020): plan for the part before it; run --on-air
 
 #[test]
 fn breaks_begin_at_entry_pictures(rt: HostRuntime) -> Result<(), Fail> {
-    let network = file(&rt, "planning_tests_open_network.ts")?;
+    let network = file(&rt, "program_tests_plans_open_network.ts")?;
     let network = network.to_str().ok_or("a name")?;
-    let advert = file(&rt, "planning_tests_open_advert.ts")?;
+    let advert = file(&rt, "program_tests_plans_open_advert.ts")?;
     let advert = advert.to_str().ok_or("a name")?;
-    let adverts = file(&rt, "planning_tests_open_adverts.txt")?;
+    let adverts = file(&rt, "program_tests_plans_open_adverts.txt")?;
     let adverts = adverts.to_str().ok_or("a name")?;
-    let breaks = file(&rt, "planning_tests_open_breaks.txt")?;
+    let breaks = file(&rt, "program_tests_plans_open_breaks.txt")?;
     let breaks = breaks.to_str().ok_or("a name")?;
-    let script = file(&rt, "planning_tests_open_script.txt")?;
+    let script = file(&rt, "program_tests_plans_open_script.txt")?;
     let script = script.to_str().ok_or("a name")?;
     let pictures = Pictures {
         count: 500,
@@ -230,15 +230,15 @@ line 2: not planned: no entry picture within 10 s, the nearest before at 16.000 
 
 #[test]
 fn slices_are_looked_for_in_all_packets(rt: HostRuntime) -> Result<(), Fail> {
-    let network = file(&rt, "planning_tests_second_network.ts")?;
+    let network = file(&rt, "program_tests_plans_second_network.ts")?;
     let network = network.to_str().ok_or("a name")?;
-    let advert = file(&rt, "planning_tests_second_advert.ts")?;
+    let advert = file(&rt, "program_tests_plans_second_advert.ts")?;
     let advert = advert.to_str().ok_or("a name")?;
-    let adverts = file(&rt, "planning_tests_second_adverts.txt")?;
+    let adverts = file(&rt, "program_tests_plans_second_adverts.txt")?;
     let adverts = adverts.to_str().ok_or("a name")?;
-    let breaks = file(&rt, "planning_tests_second_breaks.txt")?;
+    let breaks = file(&rt, "program_tests_plans_second_breaks.txt")?;
     let breaks = breaks.to_str().ok_or("a name")?;
-    let script = file(&rt, "planning_tests_second_script.txt")?;
+    let script = file(&rt, "program_tests_plans_second_script.txt")?;
     let script = script.to_str().ok_or("a name")?;
     let pictures = Pictures {
         count: 500,
