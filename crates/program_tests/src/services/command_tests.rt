@@ -75,7 +75,7 @@ For more information, try '--help'.
 ";
 
 #[test]
-fn bad_command_lines_are_refused(rt: HostRuntime) -> Result<(), Fail> {
+fn bad_command_lines_of_services_are_refused(rt: HostRuntime) -> Result<(), Fail> {
     for (words, why) in [
         (
             words("-", "x", "--script", "-", "-"),

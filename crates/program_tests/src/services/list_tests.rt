@@ -25,7 +25,7 @@ fn stop_of(rt: &HostRuntime, text: &[u8]) -> Option<(Option<usize>, ServicesFaul
 }
 
 #[test]
-fn lines_are_judged(rt: HostRuntime) -> Result<(), Fail> {
+fn lines_of_services_are_judged(rt: HostRuntime) -> Result<(), Fail> {
     for text in [b"".as_slice(), b"\n", b" \t\r\x0C\n\n  "] {
         expect_eq!(rt;
             stop_of(&rt, text),
@@ -74,7 +74,7 @@ fn lines_are_judged(rt: HostRuntime) -> Result<(), Fail> {
 }
 
 #[test]
-fn lists_of_files(rt: HostRuntime) -> Result<(), Fail> {
+fn lists_of_services_are_files(rt: HostRuntime) -> Result<(), Fail> {
     let folder = env::temp_dir(&rt)?;
     let path = folder.join(rt.alloc(), "program_tests_services_adverts.txt")?;
     let path = path.to_str().ok_or("a name")?;
@@ -151,7 +151,7 @@ fn is_refused<R: Files + Abort>(
 }
 
 #[test]
-fn each_request_refused(rt: HostRuntime) -> Result<(), Fail> {
+fn each_request_of_services_refused(rt: HostRuntime) -> Result<(), Fail> {
     let folder = env::temp_dir(&rt)?;
     let advert = folder.join(rt.alloc(), "program_tests_services_memory.ts")?;
     let advert = advert.to_str().ok_or("a name")?;
