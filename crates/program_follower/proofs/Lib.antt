@@ -12,4 +12,5 @@ pub mod PieceLemmas
 pub mod PidLemmas
 pub mod UnfollowedLemmas
 mod StillLemmas
+mod GoOnLemmas
 mod FaultlessMapLemmas

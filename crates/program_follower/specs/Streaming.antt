@@ -1,6 +1,6 @@
 -- What the followers of the switched streams stand for, and what a packet is to them.
-use Rattle.std.specs.Prelude.{◌≡◌, ◌<◌, ℕ, ◌+◌, List, [], ◌∷◌, true, false, if◌then◌else◌, slice_index_or, Option, Some, None, option_map}
-use Rattle.ts_packet.specs.Fields.{in_error, pid_of, on, payload_on, unit_start}
+use Rattle.std.specs.Prelude.{◌≡◌, ◌<◌, ℕ, ◌+◌, List, [], ◌∷◌, Bool, true, false, not, ◌&&◌, is_some, if◌then◌else◌, slice_index_or, Option, Some, None, option_map}
+use Rattle.ts_packet.specs.Fields.{in_error, pid_of, on, payload, payload_on, scrambled, unit_start}
 use Rattle.ts_packet.specs.Duplicates.{original, repeats}
 use Rattle.unit_stream.specs.declared.reader.UnitReader.{UnitReader}
 use Rattle.unit_stream.specs.Times.{begins, begins_one, in_unit, high, stamp, splits}
@@ -89,6 +89,10 @@ IsOfStream (Some x) pids p past = (pid : ℕ) × ((first_on pids p ≡ Some (x.0
 abbrev pub IsStartPacket : StartPacket → List ℕ → ℕ → List ℕ → List (List ℕ) → Type 0
 IsStartPacket (starts.Start begun) pids pid p past = (begins pid p past ≡ true) × Tells begun (high pids past) (stamp p)
 IsStartPacket starts.NoStart pids pid p past = begins pid p past ≡ false
+
+-- a packet of a stream that goes on with what came before: it has a payload, which is not scrambled, and no start bit (ISO/IEC 13818-1, 2.4.3.3)
+abbrev pub is_more : List ℕ → Bool
+is_more p = not (unit_start p) && (not (scrambled p) && is_some (payload p))
 
 -- of which stream it is, and what it is there to such a reader
 abbrev pub IsOfStarts : Option (ℕ × StartPacket) → List ℕ → List ℕ → List (List ℕ) → Type 0

@@ -1,7 +1,7 @@
 //! One program of a network, followed by where its units begin.
 
 ghost use Rattle.std.specs.Prelude.{◌≡◌, ◌<◌, ◌≤◌, ◌+◌, ◌∷◌, ◌++◌, [], ℕ, List, length, slice_index_or, Option, Some, None};
-ghost use Rattle.std.specs.Prelude.{option_map, true, OnOk, IfOk, IfErr, IfSome};
+ghost use Rattle.std.specs.Prelude.{option_map, true, OnOk, OnSome, IfOk, IfErr, IfSome};
 ghost use Rattle.arrayvec.specs.ArrayVec.{array_vec_len};
 ghost use Rattle.ts_packet.specs.Fields.{on_one};
 ghost use Rattle.pes_time.specs.Line.{ring_of};
@@ -12,13 +12,13 @@ ghost use Rattle.program_follower.specs.PidUses.{IsTablePid, HasPlacesElsewhere}
 ghost use Rattle.program_follower.specs.Standing.{tables_left, lent_program};
 ghost use Rattle.program_follower.specs.Streaming.{IsOfStarts, place_in, start_in};
 ghost use Rattle.program_follower.specs.Following.{StartsStandFor, StartsShow, IsUnfollowed, OfStartPast, OfStreamPast, OfBegins};
-ghost use Rattle.program_follower.specs.Following.{StartsSince, grown, high_of, IsStartPlace, IsOfStartsAt, IsOnTables, streams_of_program};
+ghost use Rattle.program_follower.specs.Following.{IsMoreOf, StartsSince, grown, high_of, IsStartPlace, IsOfStartsAt, IsOnTables, streams_of_program};
 
 use crate::follower::of_unit;
 use crate::known::KnownProgram;
 use crate::pid_uses::{PidUse, PidUses};
 use crate::purpose::Purpose;
-use crate::starts::{StartPacket, Starts, UnitStart};
+use crate::starts::{StartPacket, Starts, UnitStart, goes_on};
 use crate::table_reader::{OnTables, TableReader, or_zero};
 use crate::tables::Tables;
 use arrayvec::ArrayVec;
@@ -121,6 +121,38 @@ impl StartFollower {
             }
             PidUse::Stream(index) => self.feed_stream(index, packet),
             PidUse::Table => self.feed_tables(packet),
+        }
+    }
+
+    /// The number of the switched stream in which the next packet of the network goes on with what came before it, in the order of the map: it is
+    /// neither marked in error nor scrambled, and has a payload and no start bit. `None` where it is no such packet. It is not taken.
+    #[inline(always)]
+    pub fn goes_on(&self, packet: &Packet) -> Option<usize>
+        ensures below { IfSome result (λ stream. stream < 8) }
+        ensures goes_on { OfStartPast self.now (λ c past. IfSome result (λ stream. IsMoreOf c stream packet.now past)) }
+    {
+        let PidUse::Stream(index) = self.uses.use_of(packet) else {
+            return None;
+        };
+        let Some(_streams) = &self.streams else {
+            return None;
+        };
+        if packet.error() || !goes_on(packet) {
+            return None;
+        }
+        Some(index)
+    }
+
+    /// Takes the next packet of the network, which goes on in the stream of this number.
+    #[inline(always)]
+    pub fn go_on(&mut self, stream: usize, packet: &Packet)
+        requires { stream < 8 }
+        ensures stands { OfStartPast self.old (λ c past. IsMoreOf c stream packet.now past → StartsStandFor self.new c (packet.now ∷ past)) }
+        ensures shows { OfStartPast self.old (λ c past. IsMoreOf c stream packet.now past → StartsShow self.new c (packet.now ∷ past)) }
+    {
+        self.tables.pass();
+        if let Some(streams) = &mut self.streams {
+            streams.go_on(stream, packet);
         }
     }
 

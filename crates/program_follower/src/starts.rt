@@ -10,7 +10,7 @@ ghost use Rattle.unit_stream.specs.Starts.{ReadsStarts, IsBegin};
 ghost use Rattle.unit_stream.specs.Clocks.{ClockAt};
 ghost use Rattle.program_follower.specs.Faults.{pids_in};
 ghost use Rattle.program_follower.specs.Streaming.{AllStartsRead, StartsRead, IsOne, begin_fault};
-ghost use Rattle.program_follower.specs.Streaming.{place_in, IsStartPacket, IsOfStarts, start_in};
+ghost use Rattle.program_follower.specs.Streaming.{is_more, place_in, IsStartPacket, IsOfStarts, start_in};
 ghost use Rattle.pes_time.specs.Stamps.{stamp_of};
 
 use crate::places::StreamPlaces;
@@ -105,6 +105,16 @@ impl Starts {
             Ok(part) => Ok(Some((index, part))),
             Err(fault) => Err(fault),
         }
+    }
+
+    /// Takes the next packet behind the head, which is of the stream of this number and goes on with what came before.
+    #[inline(always)]
+    pub(crate) fn go_on(&mut self, index: usize, packet: &Packet)
+        requires { index < 8 }
+        ensures { (pids : List ℕ) (past : List (List ℕ)) → Some index ≡ place_in pids packet.now → is_more packet.now ≡ true
+            → StartsRead self.old pids past → StartsRead self.new pids (packet.now ∷ past) }
+    {
+        let _none = feed_at(&mut self.readers, index, packet);
     }
 
     /// Takes the next packet behind the head, which is of the stream of this number, and answers what it is there.
@@ -214,6 +224,14 @@ fn stamp_in(payload: &[u8]) -> Option<Time33>
         Ok(head) => head.pts(),
         Err(_) => None,
     }
+}
+
+/// The packet goes on with what came before it in its stream: it has a payload, not scrambled, and no start bit.
+#[inline(always)]
+pub(crate) fn goes_on(packet: &Packet) -> bool
+    ensures { result ≡ is_more packet.now }
+{
+    !packet.unit_start() && !packet.scrambled() && packet.has_payload()
 }
 
 /// What a packet of a stream is, by the payload with which it begins a unit, if it begins one. The clock passes the begin.
