@@ -1,6 +1,6 @@
 -- A packet before which no cue can be due, and one on whose PID nothing of the program is.
 use Rattle.std.proofs.Common.{◌≡◌, ℕ, List, [], ◌∷◌, ◌++◌, false, refl, sym, ap, subst, ◌∙◌}
-use Rattle.std.specs.Prelude.{None, Some, option_map, filter}
+use Rattle.std.specs.Prelude.{None, Some, option_map, filter, is_some, true}
 use Rattle.pes_time.specs.Line.{ring_of}
 use Rattle.ts_packet.specs.Fields.{pid_of}
 use Rattle.ts_packet.specs.Runs.{onto}
@@ -11,7 +11,8 @@ use Rattle.psi_tables.specs.declared.config.Config.{Config}
 use Rattle.program_follower.specs.Program.{listed}
 use Rattle.program_follower.specs.Purposes.{writing_cues}
 use Rattle.program_follower.specs.Faults.{network_fault}
-use Rattle.program_follower.specs.Following.{high_of, IsUnfollowed}
+use Rattle.program_follower.specs.declared.start_follower.StartFollower.{StartFollower}
+use Rattle.program_follower.specs.Following.{high_of, IsMoreOf, IsElsewhere, IsUnfollowed, StartsStandFor}
 use Rattle.program_follower.proofs.UnfollowedLemmas.{unfollowed-elsewhere, stands-past, clean-past, high-past}
 use Rattle.program_laws.specs.Writing.{packets_out}
 use Rattle.outgoing_packets.proofs.NumberLemmas.{number-others}
@@ -20,7 +21,7 @@ use Rattle.injector.specs.declared.injector.Injector.{Injector}
 use Rattle.injector.specs.Turns.{greatest_in, events}
 use Rattle.injector.specs.Noting.{IsBefore, NotesStandFor}
 use Rattle.injector.specs.Steps.{Step, Packet, packets_in, turns_in, has_news, cued, cue_packets, body_at, sent_at}
-use Rattle.injector.specs.Injecting.{IsStill, JudgesBy, RestsAt, InjectorStandsFor}
+use Rattle.injector.specs.Injecting.{IsStill, JudgesBy, RestsAt, InjectorStandsFor, GoesOnAlone}
 use Rattle.injector.proofs.FeedLemmas.{rises-at, turns-high, body-off}
 use Rattle.injector.proofs.RestLemmas.{idle-between, idle-told, no-cue-between}
 use Rattle.injector.proofs.BoundLemmas.{stays-still}
@@ -70,37 +71,74 @@ quiet-behind i cfg p past judges notes-are news-is rest-is quiet sound stays =
       rest = (stays-still i.rest cfg.index turns latest rises notes-are.kept (idle-between cfg past (greatest_in turns) news refl) (rest-is quiet) same).rests;
     }
 
--- ---- nothing of the program is on its PID
+-- ---- it is on no PID of tables or cues, behind the PAT, and the greatest time stays
 
-module _ (i : Injector) (c : Config) (p : List ℕ) (past : List Step) (h : InjectorStandsFor i c past) (quiet : has_news c.index (turns_in c.program past) ≡ false)
-    (u : IsUnfollowed (Some c.program) (Some c.cue_pid) (pid_of p) (packets_in past)) where
+-- a packet that is of no table and no cue, without a fault, and with which the greatest time stays
+pub record IsPlain (c : Config) (p : List ℕ) (net : List (List ℕ)) : Type 0 where
+  pub listed : is_some (listed (Some c.program) net) ≡ true
+  pub elsewhere : IsElsewhere (writing_cues c) p net
+  pub sound : network_fault (writing_cues c) p net ≡ None
+  pub high : high_of (Some c.program) (p ∷ net) ≡ high_of (Some c.program) net
+
+plain-of : (c : Config) (stream : ℕ) (p : List ℕ) (net : List (List ℕ)) → IsMoreOf (writing_cues c) stream p net → IsPlain c p net
+plain-of c stream p net g = record { listed = g.listed; elsewhere = g.elsewhere; sound = g.sound; high = g.high }
+
+module _ (i : Injector) (f : StartFollower) (c : Config) (p : List ℕ) (past : List Step) (h : InjectorStandsFor i c past)
+    (quiet : has_news c.index (turns_in c.program past) ≡ false) (u : IsPlain c p (packets_in past)) where
   -- THE PACKET goes out alone
-  pub unfollowed-sent : sent_at c p past ≡ p ∷ []
-  unfollowed-sent =
-      sent-alone c p past quiet (high-past (writing_cues c) p (packets_in past) u)
-      ∙ body-off c p (packets_in past) (cued c past) (unfollowed-elsewhere (writing_cues c) p (packets_in past) u).map
+  pub plain-sent : sent_at c p past ≡ p ∷ []
+  plain-sent = sent-alone c p past quiet u.high ∙ body-off c p (packets_in past) (cued c past) u.elsewhere.map
 
-  -- and the injector stands for the history with it as it is
-  pub injector-past : InjectorStandsFor i c (Packet p ∷ past)
-  injector-past =
+  -- and the injector whose follower stands for the network with it stands for the history with it
+  pub plain-past : StartsStandFor f (writing_cues c) (p ∷ packets_in past) → InjectorStandsFor (record i { follower = f }) c (Packet p ∷ past)
+  plain-past follows =
       let net = packets_in past in
-      let e = unfollowed-elsewhere (writing_cues c) p net u in
-      let n = quiet-behind i c p past h.judges h.notes h.news h.rest (h.news ∙ quiet) (clean-past (writing_cues c) p net u i.follower h.follower) (high-past (writing_cues c) p net u) in
-      let out : cued c (Packet p ∷ past) ≡ p ∷ cued c past = ap (onto (cued c past)) unfollowed-sent in
+      let n = quiet-behind i c p past h.judges h.notes h.news h.rest (h.news ∙ quiet) u.sound u.high in
+      let out : cued c (Packet p ∷ past) ≡ p ∷ cued c past = ap (onto (cued c past)) plain-sent in
       let l = listed (Some c.program) net in
       record {
-        judges = n.judges;
+        judges = record { requests = n.judges.requests; counted = n.judges.counted };
         cue_pid = h.cue_pid;
         notes = n.notes;
         news = h.news ∙ quiet;
         rest = λ still. n.rest;
-        follower = stands-past (writing_cues c) p net u i.follower h.follower;
+        follower = follows;
         out = record {
           passed = h.out.passed;
           put = h.out.put;
-          cues = h.out.cues ∙ sym (ap (λ qs. Rattle.program_laws.specs.Writing.number_on c.cue_pid qs) out ∙ number-others c.cue_pid (p ∷ []) (cued c past) (e.cue, tt));
+          cues = h.out.cues ∙ sym (ap (λ qs. Rattle.program_laws.specs.Writing.number_on c.cue_pid qs) out ∙ number-others c.cue_pid (p ∷ []) (cued c past) (u.elsewhere.cue, tt));
           go_on = subst (λ qs. Rattle.outgoing_packets.specs.Numbers.GoOnAs (listed (Some c.program) (p ∷ net)) h.out.passed qs) (sym out)
-              (go-on-later (Some c.program) p net h.out.passed (p ∷ cued c past) (go-on-past l p h.out.passed (cued c past) u.listed e.map h.out.go_on));
+              (go-on-later (Some c.program) p net h.out.passed (p ∷ cued c past) (go-on-past l p h.out.passed (cued c past) u.listed u.elsewhere.map h.out.go_on));
         };
         whole = h.whole;
       }
+
+-- ---- it goes on in a switched stream
+
+module _ (i : Injector) (c : Config) (stream : ℕ) (p : List ℕ) (past : List Step) (h : InjectorStandsFor i c past) (g : GoesOnAlone c stream p past) where
+  -- THE PACKET goes out alone
+  pub goes-on-sent : sent_at c p past ≡ p ∷ []
+  goes-on-sent = plain-sent i i.follower c p past h g.quiet (plain-of c stream p (packets_in past) g.goes_on)
+
+  pub goes-on-past : (f : StartFollower) → StartsStandFor f (writing_cues c) (p ∷ packets_in past) → InjectorStandsFor (record i { follower = f }) c (Packet p ∷ past)
+  goes-on-past f follows = plain-past i f c p past h g.quiet (plain-of c stream p (packets_in past) g.goes_on) follows
+
+-- ---- nothing of the program is on its PID
+
+module _ (i : Injector) (c : Config) (p : List ℕ) (past : List Step) (h : InjectorStandsFor i c past) (quiet : has_news c.index (turns_in c.program past) ≡ false)
+    (u : IsUnfollowed (Some c.program) (Some c.cue_pid) (pid_of p) (packets_in past)) where
+  unfollowed-plain : IsPlain c p (packets_in past)
+  unfollowed-plain = record {
+    listed = u.listed;
+    elsewhere = unfollowed-elsewhere (writing_cues c) p (packets_in past) u;
+    sound = clean-past (writing_cues c) p (packets_in past) u i.follower h.follower;
+    high = high-past (writing_cues c) p (packets_in past) u;
+  }
+
+  -- THE PACKET goes out alone
+  pub unfollowed-sent : sent_at c p past ≡ p ∷ []
+  unfollowed-sent = plain-sent i i.follower c p past h quiet unfollowed-plain
+
+  -- and the injector stands for the history with it as it is
+  pub injector-past : InjectorStandsFor i c (Packet p ∷ past)
+  injector-past = plain-past i i.follower c p past h quiet unfollowed-plain (stands-past (writing_cues c) p (packets_in past) u i.follower h.follower)

@@ -7,7 +7,7 @@ use Rattle.psi_tables.specs.declared.network.FeedFault.{FeedFault}
 use Rattle.psi_tables.specs.declared.network.FeedFault.TheVariants.{Network, Sink, Failed}
 use Rattle.psi_tables.specs.declared.network.NetworkFault.{NetworkFault}
 use Rattle.program_follower.specs.Program.{listed}
-use Rattle.program_follower.specs.Following.{StartsStandFor, StartsShow, on_map, high_of}
+use Rattle.program_follower.specs.Following.{IsMoreOf, StartsStandFor, StartsShow, on_map, high_of}
 use Rattle.program_follower.specs.Faults.{network_fault}
 use Rattle.outgoing_packets.specs.Numbers.{HasPut, GoOnAs, FrontFails}
 use Rattle.outgoing_packets.specs.declared.outgoing.Outgoing.{Outgoing}
@@ -69,6 +69,11 @@ network_answer (Ok u) = None
 network_answer (Err (Network fault)) = Some fault
 network_answer (Err (Sink fault)) = None
 network_answer (Err Failed) = None
+
+-- a packet that goes on in this switched stream with what came before it, where no request was accepted since the last packet
+pub record GoesOnAlone (c : Config) (stream : ℕ) (p : List ℕ) (past : List Step) : Type 0 where
+  pub goes_on : IsMoreOf (writing_cues c) stream p (packets_in past)
+  pub quiet : has_news c.index (turns_in c.program past) ≡ false
 
 -- ---- within
 

@@ -17,7 +17,7 @@ ghost use Rattle.injector.specs.Senders.{IsIdle};
 ghost use Rattle.injector.specs.Noting.{NotesStandFor, StaysAtRest};
 ghost use Rattle.injector.specs.Steps.{Step, Message as MessageStep, Packet as PacketStep, packets_in, turns_in};
 ghost use Rattle.injector.specs.Steps.{body_at, sent_at, has_news};
-ghost use Rattle.injector.specs.Injecting.{InjectorStandsFor, JudgesBy, FeedFails, CountsAre, network_answer};
+ghost use Rattle.injector.specs.Injecting.{InjectorStandsFor, JudgesBy, FeedFails, CountsAre, GoesOnAlone, network_answer};
 ghost use Rattle.injector.specs.Injecting.{IsFollowed, IsStill, IsBodyOf, RestsAt, KeepsRest, KeepsAllButRest};
 ghost use Rattle.outgoing_packets.specs.Faults.{FeedBlamed, KeepsSink, is_err_or};
 ghost use Rattle.program_follower.specs.Purposes.{writing_cues};
@@ -155,6 +155,34 @@ impl Injector {
             IsUnfollowed (Some c.program) (Some c.cue_pid) (pid_of packet.now) (packets_in past) }
     {
         !self.has_news && self.overlooks_pid(packet.pid())
+    }
+
+    /// The number of the switched stream in which the next packet of the network goes on with what came before it, where no request was accepted
+    /// since the last packet: it goes out alone, as it came. `None` where it is no such packet. It is not taken.
+    #[inline(always)]
+    pub fn goes_on(&self, packet: &Packet) -> Option<usize>
+        ensures below { IfSome result (λ stream. stream < 8) }
+        ensures alone { (c : Config) (past : List Step) → InjectorStandsFor self.now c past →
+            IfSome result (λ stream. GoesOnAlone c stream packet.now past) }
+    {
+        if self.is_spent || self.has_news {
+            return None;
+        }
+        match self.follower.goes_on(packet) {
+            Some(stream) => Some(stream),
+            None => None,
+        }
+    }
+
+    /// Takes the next packet of the network, which goes on alone in the stream of this number. It is not put here.
+    #[inline(always)]
+    pub fn go_on(&mut self, stream: usize, packet: &Packet)
+        requires { stream < 8 }
+        ensures stands { (c : Config) (past : List Step) → InjectorStandsFor self.old c past → GoesOnAlone c stream packet.now past →
+            InjectorStandsFor self.new c (PacketStep packet.now ∷ past) }
+        ensures spent { self.new.is_spent ≡ self.old.is_spent }
+    {
+        self.follower.go_on(stream, packet);
     }
 
     /// What is wrong with the next packet of the network, behind those before it. It is not taken, and nothing changes.

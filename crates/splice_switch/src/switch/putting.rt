@@ -45,6 +45,13 @@ impl Switch {
         ensures kept { IfErr result (λ f. KeepsSink f sink.old sink.new) }
         ensures spent { self.new.is_spent ≡ self.old.is_spent }
     {
+        if let Some(stream) = self.follower.goes_on(packet) {
+            self.follower.go_on(stream, packet);
+            return match self.put_of_stream(stream, &StartPacket::NoStart, packet, library, sink) {
+                Ok(()) => Ok(()),
+                Err(fault) => Err(FeedFault::Sink(fault)),
+            };
+        }
         match self.follower.feed(packet) {
             Ok(place) => match self.put(&place, packet, library, sink) {
                 Ok(()) => Ok(()),
