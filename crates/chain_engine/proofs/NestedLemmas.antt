@@ -249,7 +249,7 @@ module _ {K : Type 0} (c : Config) (filed : ℕ → Option Advertisement) (start
   abbrev Says : FeedFault → Type 0 → Type 0
   Says x untouched = PassFails x c filed p steps untouched (λ put q y. fails out start (before ++ put) q y)
 
-  by_kept : (untouched : Type 0) (put : List (List ℕ)) (q : List ℕ) (left : List (List ℕ)) → IsSoundNetwork c (p ∷ packets_in steps) → sent_at c p steps ≡ put ++ q ∷ left → (x : FeedFault) → IsWhy x put q
+  pub by_kept : (untouched : Type 0) (put : List (List ℕ)) (q : List ℕ) (left : List (List ℕ)) → IsSoundNetwork c (p ∷ packets_in steps) → sent_at c p steps ≡ put ++ q ∷ left → (x : FeedFault) → IsWhy x put q
       → Says x untouched
   by_kept untouched put q left s all (Network f) h = absurd (none_found put q left f s all h)
   by_kept untouched put q left s all (Sink f) h =

@@ -1,6 +1,6 @@
 //! What stands for one programme in a chain: the cues that its injector puts in are obeyed by its switch, packet by packet.
 
-ghost use Rattle.std.specs.Prelude.{◌≡◌, ℕ, ◌++◌, ◌∷◌, [], List, length, Option, Some, OnOk, IfOk, IfErr, true};
+ghost use Rattle.std.specs.Prelude.{◌≡◌, ◌<◌, ℕ, ◌++◌, ◌∷◌, [], List, length, Option, Some, OnOk, IfOk, IfErr, IfSome, true};
 ghost use Rattle.ts_packet.specs.Fields.{on_one};
 ghost use Rattle.ts_packet.specs.Transfers.{WentWell};
 ghost use Rattle.program_follower.specs.Program.{known_pids};
@@ -10,7 +10,7 @@ ghost use Rattle.psi_tables.specs.declared.config.Config.{Config};
 ghost use Rattle.ad_library.specs.Advertisements.{Advertisement};
 ghost use Rattle.ad_library.specs.Library.{held};
 ghost use Rattle.injector.specs.Steps.{Step, Packet as PacketStep, cued, packets_in, turns_in};
-ghost use Rattle.injector.specs.Injecting.{CountsAre};
+ghost use Rattle.injector.specs.Injecting.{CountsAre, GoesOnAlone};
 ghost use Rattle.chain_engine.specs.Stages.{InjectsFor};
 ghost use Rattle.outgoing_packets.specs.Faults.{FeedBlamed};
 ghost use Rattle.splice_plans.specs.Adverts.{setting_of};
@@ -173,12 +173,68 @@ impl Service {
         ensures injector { (c : Config) (steps : List Step) → InjectsFor c self.old steps
             → OnOk result (InjectsFor c self.new (PacketStep packet.now ∷ steps)) }
     {
-        if !self.overlooks(packet) {
-            return self.pass_on(packet, library, out);
+        if self.overlooks(packet) {
+            return match out.put(packet) {
+                Ok(()) => Ok(()),
+                Err(fault) => Err(FeedFault::Sink(fault)),
+            };
         }
-        match out.put(packet) {
+        match self.goes_on(packet) {
+            Some(stream) => self.go_on(stream, packet, library, out),
+            None => self.pass_on(packet, library, out),
+        }
+    }
+
+    /// The number of the switched stream in which the next packet of the network goes on with what came before it, where no request was accepted
+    /// since the last packet. `None` where it is no such packet. It is not taken.
+    #[inline(always)]
+    pub fn goes_on(&self, packet: &Packet) -> Option<usize>
+        ensures below { IfSome result (λ stream. stream < 8) }
+        ensures alone { (c : Config) (steps : List Step) → InjectsFor c self.now steps
+            → IfSome result (λ stream. GoesOnAlone c stream packet.now steps) }
+    {
+        self.injector.goes_on(packet)
+    }
+
+    /// Takes the next packet as [`Service::pass`] does, which goes on alone in the stream of this number: it alone goes to the switch.
+    ///
+    /// # Errors
+    ///
+    /// As for [`Service::pass`].
+    #[inline(always)]
+    pub fn go_on<K: PacketSink>(
+        &mut self,
+        stream: usize,
+        packet: &Packet,
+        library: &AdLibrary,
+        out: &mut K,
+    ) -> Result<(), FeedFault>
+        requires { stream < 8 }
+        ensures leads { K.leads out.old out.new }
+        ensures ok { (c : Config) (steps : List Step) (start : Option (List ℕ)) (ps : List (List ℕ)) → GoesOnAlone c stream packet.now steps
+            → ServiceStandsFor self.old c (held library.now) steps → K.holds out.old start ps
+            → OnOk result (ServiceStandsFor self.new c (held library.now) (PacketStep packet.now ∷ steps)
+            × K.holds out.new start (ps ++ chain_at c (held library.now) packet.now steps)) }
+        ensures airs { (c : Config) (steps : List Step) (fed : List Aired) (start : Option (List ℕ)) (ps : List (List ℕ))
+            → GoesOnAlone c stream packet.now steps → ServiceAirs self.old c (held library.now) steps fed → K.holds out.old start ps
+            → OnOk result (PassedOnAir self.new c (held library.now) (judged packet.now) steps fed
+            (λ qs. K.holds out.new start (ps ++ qs))) }
+        ensures err { (c : Config) (steps : List Step) (start : Option (List ℕ)) (ps : List (List ℕ)) → GoesOnAlone c stream packet.now steps
+            → ServiceStandsFor self.old c (held library.now) steps → K.holds out.old start ps
+            → IfErr result (λ f. PassFails f c (held library.now) packet.now steps (K.holds out.new start ps)
+            (λ put q x. K.fails out.new start (ps ++ put) q x)) }
+        ensures well { OnOk result (WentWell (K.counts out.old) (K.counts out.new)) }
+        ensures blamed { IfErr result (λ f. OutputBlamed (RunFault.Feed f)
+            (K.counts out.old) (K.counts out.new) (K.is_full out.new)) }
+        ensures config { self.new.config ≡ self.old.config }
+        ensures injector { (c : Config) (steps : List Step) → GoesOnAlone c stream packet.now steps → InjectsFor c self.old steps
+            → InjectsFor c self.new (PacketStep packet.now ∷ steps) }
+    {
+        of_bytes(packet);
+        self.injector.go_on(stream, packet);
+        match self.switch.feed_with_same(packet, library, out) {
             Ok(()) => Ok(()),
-            Err(fault) => Err(FeedFault::Sink(fault)),
+            Err(fault) => Err(fault),
         }
     }
 

@@ -5,17 +5,17 @@ use Rattle.chain_engine.proofs.service.Service.pass.Goals as goal
 
 pub returns-in-Ok-clause-ok : goal.returns-in-Ok-clause-ok
 returns-in-Ok-clause-ok g c = λ d steps start ps stands is_held.
-    let by = c.overlooks.ensures.stands d (held c.args.library.now) steps stands c.if-not-overlooks.false in
+    let by = c.overlooks.ensures.stands d (held c.args.library.now) steps stands c.if-overlooks.true in
     (by.stands, subst (λ l. g.K.PacketSink.holds c.put.new.self start (ps ++ l)) (sym by.alone) (c.in-Ok.ensures.ok start ps is_held))
 
 pub returns-in-Ok-clause-airs : goal.returns-in-Ok-clause-airs
 returns-in-Ok-clause-airs g c = λ d steps fed start ps stands is_held.
-    let by = c.overlooks.ensures.airs d (held c.args.library.now) steps fed stands c.if-not-overlooks.false in
+    let by = c.overlooks.ensures.airs d (held c.args.library.now) steps fed stands c.if-overlooks.true in
     record { airs = by.airs; out = subst (λ l. g.K.PacketSink.holds c.put.new.self start (ps ++ l)) (sym by.out) (c.in-Ok.ensures.ok start ps is_held) }
 
 pub returns-in-Err-clause-err : goal.returns-in-Err-clause-err
 returns-in-Err-clause-err g c = λ d steps start ps stands is_held.
-    let by = c.overlooks.ensures.stands d (held c.args.library.now) steps stands c.if-not-overlooks.false in
+    let by = c.overlooks.ensures.stands d (held c.args.library.now) steps stands c.if-overlooks.true in
     record {
       put = [];
       packet = c.args.packet.now;
@@ -23,3 +23,12 @@ returns-in-Err-clause-err g c = λ d steps start ps stands is_held.
       all = by.alone;
       fault = subst (λ l. g.K.PacketSink.fails c.put.new.self start l c.args.packet.now c.in-Err.fault) (sym (append-nil ps)) (c.in-Err.ensures.err start ps is_held);
     }
+
+pub returns-in-Some-clause-ok : goal.returns-in-Some-clause-ok
+returns-in-Some-clause-ok g c = λ d steps start ps stands is_held. c.go_on.ensures.ok d steps start ps (c.in-Some.ensures.alone d steps stands.injector) stands is_held
+
+pub returns-in-Some-clause-airs : goal.returns-in-Some-clause-airs
+returns-in-Some-clause-airs g c = λ d steps fed start ps h is_held. c.go_on.ensures.airs d steps fed start ps (c.in-Some.ensures.alone d steps h.injector) h is_held
+
+pub returns-in-Some-clause-err : goal.returns-in-Some-clause-err
+returns-in-Some-clause-err g c = λ d steps start ps stands is_held. c.go_on.ensures.err d steps start ps (c.in-Some.ensures.alone d steps stands.injector) stands is_held
