@@ -3,6 +3,7 @@ pub mod PartLemmas
 pub mod UnfollowedLemmas
 pub mod OwnerLemmas
 pub mod ShiftLemmas
+pub mod GoOnLemmas
 pub mod RestLemmas
 pub mod ApartLemmas
 pub mod BeginLemmas

@@ -11,7 +11,7 @@ use Rattle.ts_packet.specs.Fields.{pid_of, on, on_one, is_among}
 use Rattle.program_follower.specs.declared.purpose.Listed.{Listed}
 use Rattle.program_follower.specs.Program.{listed, program_of, pids_of, known_pids}
 use Rattle.program_follower.specs.Purposes.{writing_cues}
-use Rattle.program_follower.specs.Following.{IsUnfollowed}
+use Rattle.program_follower.specs.Following.{IsElsewhere, IsUnfollowed}
 use Rattle.program_follower.proofs.ElsewhereLemmas.{off_other, listed_same, program_same}
 use Rattle.program_follower.proofs.UnfollowedLemmas.{unfollowed-elsewhere, unfollowed-later}
 use Rattle.injector.specs.Steps.{Step, Message, Packet, packets_in, turns_in, outcome, is_accepted, has_news}
@@ -33,15 +33,18 @@ none-one (x ∷ pids) p h =
     let r = or_parts (x == pid_of p) (is_among (pid_of p) pids) h in
     or_from (on x p) (on_one pids p) (off_other x p (λ y. eqb-false x (pid_of p) r.0 (sym y))) (none-one pids p r.1)
 
+-- with a packet of no table no PID more is known
+pub elsewhere-same : (t : ServiceTerms) (p : List ℕ) (past : List (List ℕ)) → IsElsewhere (writing_cues t.config) p past → KnowsSame t p past
+elsewhere-same t p past e =
+    ap (λ o. option_to_list (option_map (λ (l : Listed). l.pid) o) ++ pids_of (program_of (Some t.config.program) (p ∷ past))) (listed_same (writing_cues t.config) p past e)
+    ∙ ap (λ r. option_to_list (option_map (λ (l : Listed). l.pid) (listed (Some t.config.program) past)) ++ pids_of r) (program_same (writing_cues t.config) p past e)
+
 module _ (t : ServiceTerms) (p : List ℕ) (past : List (List ℕ)) (u : IsUnfollowed (Some t.config.program) (Some t.config.cue_pid) (pid_of p) past) where
   pub not-own : owns t p past ≡ false
   not-own = none-one (known_pids (Some t.config.program) past) p u.known
 
   pub knows-same : KnowsSame t p past
-  knows-same =
-      let e = unfollowed-elsewhere (writing_cues t.config) p past u in
-      ap (λ o. option_to_list (option_map (λ (l : Listed). l.pid) o) ++ pids_of (program_of (Some t.config.program) (p ∷ past))) (listed_same (writing_cues t.config) p past e)
-      ∙ ap (λ r. option_to_list (option_map (λ (l : Listed). l.pid) (listed (Some t.config.program) past)) ++ pids_of r) (program_same (writing_cues t.config) p past e)
+  knows-same = elsewhere-same t p past (unfollowed-elsewhere (writing_cues t.config) p past u)
 
 -- it has passed, and adds nothing
 pub passed-by : (s : Service) (t : ServiceTerms) (p : List ℕ) (steps : List Step) (h : ServesAs s t steps) (is_out : List (List ℕ) → Type 0) → PassesBy s t.config t.filed p h.taken → is_out []

@@ -1,6 +1,6 @@
 //! One packet through all services.
 
-ghost use Rattle.std.specs.Prelude.{◌≡◌, ◌||◌, ◌++◌, ◌∷◌, ℕ, List, Option, OnOk, IfOk, IfErr, true, false};
+ghost use Rattle.std.specs.Prelude.{◌≡◌, ◌<◌, ◌||◌, ◌++◌, ◌∷◌, ℕ, List, Option, OnOk, IfOk, IfErr, true, false};
 ghost use Rattle.ts_packet.specs.Transfers.{WentWell};
 ghost use Rattle.outgoing_packets.specs.Faults.{FeedBlamed};
 ghost use Rattle.injector.specs.Steps.{Step, Packet as PacketStep, packets_in};
@@ -9,7 +9,7 @@ ghost use Rattle.chain_engine.specs.Runs.{OutputBlamed};
 ghost use Rattle.service_laws.specs.Services.{ServiceTerms, configs_of, given_at};
 ghost use Rattle.service_laws.specs.Faults.{share_a_pid};
 ghost use Rattle.chain_services.specs.Owners.{IsSkipped, AreSkipped};
-ghost use Rattle.chain_services.specs.Serving.{ServesAs, AllServe, DeskStandsFor, FiledAs, services_in};
+ghost use Rattle.chain_services.specs.Serving.{ServesAs, GoesOnBy, AllServe, DeskStandsFor, FiledAs, services_in};
 ghost use Rattle.chain_services.specs.Parts.{PassedOn, FailedOn, PassedOne, FailedOne, PassedEach, FailedEach, AllKnowSame, parts_of};
 
 use crate::desk::Desk;
@@ -73,6 +73,42 @@ fn pass_and_learn<K: PacketSink>(
     }
 }
 
+/// Passes a packet on through a service, which goes on alone in the stream of this number: it is of its own, and no PID more is known with it.
+///
+/// # Errors
+///
+/// As for [`Service::go_on`].
+#[inline(always)]
+fn pass_alone<K: PacketSink>(
+    stream: usize,
+    service: &mut Service,
+    library: &AdLibrary,
+    packet: &Packet,
+    out: &mut K,
+) -> Result<Passed, FeedFault>
+    requires { stream < 8 }
+    ensures leads { K.leads out.old out.new }
+    ensures ok { (t : ServiceTerms) (steps : List Step) (start : Option (List ℕ)) (ps : List (List ℕ))
+        → held library.now ≡ t.filed → ServesAs service.old t steps → GoesOnBy service.old stream packet.now
+        → K.holds out.old start ps → IfOk result (λ passed. PassedOne passed.is_own passed.learns service.new t packet.now steps
+        (λ l. K.holds out.new start (ps ++ l))) }
+    ensures err { (t : ServiceTerms) (steps : List Step) (start : Option (List ℕ)) (ps : List (List ℕ))
+        → held library.now ≡ t.filed → ServesAs service.old t steps → GoesOnBy service.old stream packet.now
+        → K.holds out.old start ps → IfErr result (λ f. FailedOne f t packet.now steps (λ l. K.holds out.new start (ps ++ l))
+        (λ put q x. K.fails out.new start (ps ++ put) q x)) }
+    ensures well { OnOk result (WentWell (K.counts out.old) (K.counts out.new)) }
+    ensures blamed { IfErr result (λ f. OutputBlamed (RunFault.Feed f)
+        (K.counts out.old) (K.counts out.new) (K.is_full out.new)) }
+{
+    match service.go_on(stream, packet, library, out) {
+        Ok(()) => Ok(Passed {
+            is_own: true,
+            learns: false,
+        }),
+        Err(fault) => Err(fault),
+    }
+}
+
 /// Passes a packet on through a service: what it sends goes out where the packet is on one of its PIDs, and is the packet else. One that is
 /// kept from the service is not passed on, nor one that changes nothing of it: a packet on one of its PIDs may change it, so that one look-up
 /// is enough for that.
@@ -109,6 +145,9 @@ fn pass_one<K: PacketSink>(
     if is_left_out {
         of_bytes(packet);
         return Ok(none);
+    }
+    if let Some(stream) = service.goes_on(packet) {
+        return pass_alone(stream, service, library, packet, out);
     }
     if service.owns(packet) {
         return match pass_and_learn(service, library, packet, out) {

@@ -9,6 +9,7 @@ use Rattle.psi_section.specs.Sections.{given}
 use Rattle.program_follower.specs.declared.purpose.Listed.{Listed}
 use Rattle.program_follower.specs.declared.purpose.Purpose.{Purpose}
 use Rattle.program_follower.specs.Program.{listed, first_listed, pmt_pid_of, since_pat, known_pids, pids_of, program_of}
+use Rattle.program_follower.specs.Following.{on_map}
 use Rattle.on_air.specs.Tails.{brought, tail_of, tail_on, tail_behind, IsRead, TailIs, TailStands}
 use Rattle.on_air.specs.declared.tail.MapTail.{MapTail}
 use Rattle.on_air.proofs.TailLemmas.{read-past, known-of, listed-of, marked-error}
@@ -96,6 +97,10 @@ module _ (t : MapTail) (c : Purpose) (p : List ℕ) (read : List (List ℕ)) whe
 -- one that is marked in error
 pub kept-marked : (t : MapTail) (c : Purpose) (p : List ℕ) (read : List (List ℕ)) → TailKept t c read → TailKept t c (marked p ∷ read)
 kept-marked t c p read h = kept-out t c (marked p) read (λ l is. off_payload l.pid (marked p) (error-off l.pid (marked p) (marked-error p))) h
+
+-- one that is not on the PID of the map
+pub kept-elsewhere : (t : MapTail) (c : Purpose) (p : List ℕ) (read : List (List ℕ)) → on_map (listed c.program read) p ≡ false → TailKept t c read → TailKept t c (p ∷ read)
+kept-elsewhere t c p read off h = kept-out t c p read (λ l is. off_payload l.pid p (subst (λ o. on_map o p ≡ false) is off)) h
 
 -- and one on none of the program's PIDs
 off-first : (pid : ℕ) (pids : List ℕ) (p : List ℕ) → on_one (pid ∷ pids) p ≡ false → on pid p ≡ false

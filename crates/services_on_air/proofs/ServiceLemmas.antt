@@ -1,8 +1,12 @@
 -- One service: what becomes of a packet in its stretch, and behind it.
-use Rattle.std.proofs.Common.{◌≡◌, ℕ, ◌+◌, List, [], ◌∷◌, length, Bool, true, false, not, refl, sym, ap, subst, ◌∙◌, arith}
-use Rattle.std.specs.Prelude.{if◌then◌else◌, ◌==◌, Some}
+use Rattle.std.proofs.Common.{◌≡◌, ℕ, ◌+◌, List, [], ◌∷◌, ◌++◌, length, Bool, true, false, not, refl, sym, ap, subst, ◌∙◌, arith}
+use Rattle.std.specs.Prelude.{if◌then◌else◌, ◌==◌, Some, option_map, option_to_list}
+use Rattle.std.proofs.lemmas.Bool.{eq-eqb}
 use Rattle.ts_packet.specs.Fields.{marked, on_one}
-use Rattle.program_follower.specs.Program.{known_pids}
+use Rattle.program_follower.specs.declared.purpose.Listed.{Listed}
+use Rattle.program_follower.specs.Program.{listed, program_of, pids_of, known_pids}
+use Rattle.program_follower.specs.Following.{IsElsewhere}
+use Rattle.program_follower.proofs.ElsewhereLemmas.{listed_same, program_same}
 use Rattle.injector.specs.Steps.{Step, Packet as PacketStep, packets_in}
 use Rattle.injector.specs.Injecting.{InjectorStandsFor}
 use Rattle.chain_engine.specs.Followed.{HasFollowed}
@@ -173,6 +177,9 @@ module _ (s : AirService) (p : List ℕ) (a : Airing) (h : IsSettled s p a) wher
   pub before-is : packets_in h.followed.steps ≡ as_read (before_last (newest a.stretches))
   before-is = h.followed.packets ∙ sym (ap (λ w. as_read (before_last (newest w))) h.parts)
 
+  pub behind-is : s.is_unjudged ≡ false → p ∷ packets_in h.followed.steps ≡ as_read (newest a.stretches)
+  behind-is y = ap (λ l. p ∷ l) h.followed.packets ∙ ap (λ r. r ∷ as_read h.past) (is-itself s p a h y) ∙ sym (ap (λ w. as_read (newest w)) h.parts)
+
   pub owns-is : (b : Bool) → b ≡ on_one (known_pids (Some a.config.program) (packets_in h.followed.steps)) p → b ≡ owns p a
   owns-is b e = e ∙ ap (λ l. on_one (known_pids (Some a.config.program) l) p) before-is
 
@@ -187,3 +194,14 @@ pub learns-is : (a : Airing) (known now : ℕ) (steps : List Step) → known ≡
 learns-is a known now steps k f is =
     let n : now ≡ length (known_of a) = f ∙ ap (λ l. length (known_pids (Some a.config.program) l)) is in
     ap (λ x. not (x == known)) n ∙ ap (λ x. not (length (known_of a) == x)) k
+
+-- with a packet of no table no PID more is known
+pub learns-none : (a : Airing) (p : List ℕ) (steps : List Step) → IsElsewhere (writing_cues a.config) p (packets_in steps) → packets_in steps ≡ as_read (before_last (newest a.stretches))
+    → p ∷ packets_in steps ≡ as_read (newest a.stretches) → false ≡ learns a
+learns-none a p steps e before now =
+    let pids : List (List ℕ) → List ℕ = known_pids (Some a.config.program) in
+    let n = length (pids (packets_in steps)) in
+    let same : pids (p ∷ packets_in steps) ≡ pids (packets_in steps) =
+    ap (λ o. option_to_list (option_map (λ (l : Listed). l.pid) o) ++ pids_of (program_of (Some a.config.program) (p ∷ packets_in steps))) (listed_same (writing_cues a.config) p (packets_in steps) e)
+    ∙ ap (λ r. option_to_list (option_map (λ (l : Listed). l.pid) (listed (Some a.config.program) (packets_in steps))) ++ pids_of r) (program_same (writing_cues a.config) p (packets_in steps) e) in
+    sym (ap not (eq-eqb n n refl)) ∙ learns-is a n n (PacketStep p ∷ steps) (ap (λ l. length (pids l)) before) (ap length (sym same)) now

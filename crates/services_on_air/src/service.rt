@@ -1,6 +1,6 @@
 //! One service on air, stretch by stretch.
 
-ghost use Rattle.std.specs.Prelude.{◌≡◌, ℕ, ◌||◌, ◌++◌, if◌then◌else◌, List, [], ◌∷◌, length, Option, true, false, not, OnOk, IfOk};
+ghost use Rattle.std.specs.Prelude.{◌≡◌, ◌<◌, ℕ, ◌||◌, ◌++◌, if◌then◌else◌, List, [], ◌∷◌, length, Option, true, false, not, OnOk, IfOk, IfSome};
 ghost use Rattle.psi_tables.specs.declared.config.Config.{Config};
 ghost use Rattle.program_follower.specs.Purposes.{writing_cues};
 ghost use Rattle.scte104_codec.specs.Views.{reading_of};
@@ -11,7 +11,9 @@ ghost use Rattle.splice_plans.specs.Reporting.{ReportIs};
 ghost use Rattle.service_laws.specs.Services.{ServiceTerms};
 ghost use Rattle.chain_engine.specs.Stages.{InjectsFor};
 ghost use Rattle.psi_section.specs.Assembling.{capped};
+ghost use Rattle.chain_engine.specs.Airing.{judged};
 ghost use Rattle.chain_engine.specs.Followed.{HasFollowed};
+ghost use Rattle.chain_services.specs.Serving.{GoesOnBy};
 ghost use Rattle.on_air.specs.Stretches.{Entry, as_read};
 ghost use Rattle.on_air.specs.Marking.{Keeps, Becomes};
 ghost use Rattle.on_air.specs.AirRuns.{has_no};
@@ -55,6 +57,21 @@ impl Passed {
     {
         Passed {
             is_own: false,
+            is_unjudged: false,
+            learns: false,
+            has_left: false,
+        }
+    }
+
+    /// It is of a service, which judged it, and no PID more is known with it.
+    pub(crate) fn alone() -> Passed
+        ensures own { result.is_own ≡ true }
+        ensures unjudged { result.is_unjudged ≡ false }
+        ensures learns { result.learns ≡ false }
+        ensures left { result.has_left ≡ false }
+    {
+        Passed {
+            is_own: true,
             is_unjudged: false,
             learns: false,
             has_left: false,
@@ -472,6 +489,53 @@ impl AirService {
         }
     }
 
+    /// The number of the switched stream in which the packet that was settled goes on alone, where it is judged.
+    #[inline(always)]
+    fn goes_on(&self, packet: &Packet) -> Option<usize>
+        ensures below { IfSome result (λ stream. stream < 8) }
+        ensures judged { IfSome result (λ _. self.now.is_unjudged ≡ false) }
+        ensures alone { IfSome result (λ stream. GoesOnBy self.now.service stream packet.now) }
+    {
+        if self.is_unjudged {
+            return None;
+        }
+        match self.service.goes_on(packet) {
+            Some(stream) => Some(stream),
+            None => None,
+        }
+    }
+
+    /// Passes the packet on that was settled and is judged, and goes on alone in the stream of this number: it is of its own, brings no part of a
+    /// section of its map, and no PID more is known with it.
+    ///
+    /// # Errors
+    ///
+    /// The sink's.
+    #[inline(always)]
+    fn pass_alone<K: PacketSink>(
+        &mut self,
+        stream: usize,
+        packet: &Packet,
+        library: &AdLibrary,
+        out: &mut K,
+    ) -> Result<Passed, PutFault>
+        requires below { stream < 8 }
+        requires judged { self.old.is_unjudged ≡ false }
+        ensures leads { K.leads out.old out.new }
+        ensures stands { (a : Airing) → IsSettled self.old packet.now a → GoesOnBy self.old.service stream packet.now
+            → IfOk result (λ passed. AirStandsFor self.new a × IsPassed passed packet.now a) }
+        ensures out { (t : ServiceTerms) (g : Gone) (start : Option (List ℕ)) (ps : List (List ℕ)) → held library.now ≡ t.filed
+            → HasGone self.old t g → GoesOnBy self.old.service stream packet.now → K.holds out.old start ps
+            → IfOk result (λ passed. HasGone self.new t (gone_on t (judged packet.now) g)
+            × K.holds out.new start (ps ++ put_own passed.is_own t (judged packet.now) g)) }
+        ensures left { IfOk result (λ passed. passed.has_left ≡ self.new.is_unjudged) }
+    {
+        match self.service.go_on(stream, packet, library, out) {
+            Ok(()) => Ok(Passed::alone()),
+            Err(fault) => Err(put_fault(fault)),
+        }
+    }
+
     /// Passes the packet on that was settled: what it sends goes out where the packet is on one of its PIDs, and is the packet else.
     ///
     /// # Errors
@@ -493,6 +557,9 @@ impl AirService {
             × K.holds out.new start (ps ++ put_own passed.is_own t (aired_as packet.now self.old.is_unjudged) g)) }
         ensures left { IfOk result (λ passed. passed.has_left ≡ self.new.is_unjudged) }
     {
+        if let Some(stream) = self.goes_on(packet) {
+            return self.pass_alone(stream, packet, library, out);
+        }
         let known = self.service.pid_count();
         if self.service.owns(packet) {
             return self.pass_and_tell(true, known, packet, library, out);

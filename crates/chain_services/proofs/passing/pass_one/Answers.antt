@@ -43,3 +43,11 @@ returns-in-Ok-pass_and_learn-clause-ok g c = λ t steps start ps filed h skip is
 pub returns-in-Err-pass_and_learn-clause-err : goal.returns-in-Err-pass_and_learn-clause-err
 returns-in-Err-pass_and_learn-clause-err g c = λ t steps start ps filed h is_held.
     other_failed c.in-Err-pass_and_learn.fault t c.args.packet.now steps _ _ _ (subst (g.K.PacketSink.holds _ start) (sym (append-nil ps)) is_held) (c.in-Err-pass_and_learn.ensures.err t steps start ps filed h tt)
+
+pub returns-in-Some-clause-ok : goal.returns-in-Some-clause-ok
+returns-in-Some-clause-ok g c = λ t steps start ps filed h skip is_held.
+    c.pass_alone.ensures.ok t steps start ps filed h (λ d past injects. c.in-Some.ensures.alone d past injects) is_held
+
+pub returns-in-Some-clause-err : goal.returns-in-Some-clause-err
+returns-in-Some-clause-err g c = λ t steps start ps filed h is_held.
+    c.pass_alone.ensures.err t steps start ps filed h (λ d past injects. c.in-Some.ensures.alone d past injects) is_held

@@ -1,4 +1,4 @@
-use Rattle.std.proofs.Common.{◌≡◌, None, [], ◌∷◌, ◌++◌, sym, subst, ◌∙◌}
+use Rattle.std.proofs.Common.{◌≡◌, Bool, IfOk, None, [], ◌∷◌, ◌++◌, sym, subst, ◌∙◌}
 use Rattle.services_on_air.proofs.ServiceLemmas.{owns-is, known-is}
 use Rattle.std.proofs.lemmas.Result.{IfOk-weaker}
 use Rattle.std.proofs.lemmas.List.{append-nil}
@@ -45,3 +45,13 @@ returns-clause-out g c = λ t gone start ps filed h is_held.
 
 pub returns-then-overlooks-clause-left : goal.returns-then-overlooks-clause-left
 returns-then-overlooks-clause-left g c = c.beside.ensures.left ∙ sym c.if-not-self.true
+
+pub returns-in-Some-clause-stands : goal.returns-in-Some-clause-stands
+returns-in-Some-clause-stands g c = λ a h. c.pass_alone.ensures.stands a h c.in-Some.ensures.alone
+
+pub returns-in-Some-clause-out : goal.returns-in-Some-clause-out
+returns-in-Some-clause-out g c = λ t gone start ps filed h is_held.
+    let p = c.args.packet.now in
+    let put = (λ (b own : Bool). g.K.PacketSink.holds c.pass_alone.new.out start (ps ++ put_own own t (aired_as p b) gone)) in
+    subst (λ b. IfOk c.pass_alone.result (λ passed. HasGone c.pass_alone.new.self t (gone_on t (aired_as p b) gone) × put b passed.is_own)) (sym c.in-Some.ensures.judged)
+    (c.pass_alone.ensures.out t gone start ps filed h c.in-Some.ensures.alone is_held)
