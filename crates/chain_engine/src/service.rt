@@ -10,7 +10,7 @@ ghost use Rattle.psi_tables.specs.declared.config.Config.{Config};
 ghost use Rattle.ad_library.specs.Advertisements.{Advertisement};
 ghost use Rattle.ad_library.specs.Library.{held};
 ghost use Rattle.injector.specs.Steps.{Step, Packet as PacketStep, cued, packets_in, turns_in};
-ghost use Rattle.injector.specs.Injecting.{CountsAre, GoesOnAlone};
+ghost use Rattle.injector.specs.Injecting.{CountsAre};
 ghost use Rattle.chain_engine.specs.Stages.{InjectsFor};
 ghost use Rattle.outgoing_packets.specs.Faults.{FeedBlamed};
 ghost use Rattle.splice_plans.specs.Adverts.{setting_of};
@@ -22,7 +22,7 @@ ghost use Rattle.splice_switch.specs.Standing.{SwitchStandsAt};
 ghost use Rattle.chain_engine.specs.Airing.{Aired, judged};
 ghost use Rattle.chain_engine.specs.Chained.{ServiceAirs, PassedOnAir};
 ghost use Rattle.chain_engine.specs.Runs.{OutputBlamed};
-ghost use Rattle.chain_engine.specs.Passing.{ServiceStandsFor, PassFails, PassesBy, chain_at, service_unasked};
+ghost use Rattle.chain_engine.specs.Passing.{ServiceStandsFor, GoesOnBy, PassFails, PassesBy, chain_at, service_unasked};
 
 use crate::faults::RunFault;
 use crate::judge::Judge;
@@ -179,6 +179,41 @@ impl Service {
                 Err(fault) => Err(FeedFault::Sink(fault)),
             };
         }
+        self.pass_followed(packet, library, out)
+    }
+
+    /// Does what [`Service::pass`] does. It stands by itself, so that a packet of a PID that nobody follows does not pay for its room.
+    ///
+    /// # Errors
+    ///
+    /// As for [`Service::pass`].
+    #[inline(never)]
+    fn pass_followed<K: PacketSink>(
+        &mut self,
+        packet: &Packet,
+        library: &AdLibrary,
+        out: &mut K,
+    ) -> Result<(), FeedFault>
+        ensures leads { K.leads out.old out.new }
+        ensures ok { (c : Config) (steps : List Step) (start : Option (List ℕ)) (ps : List (List ℕ))
+            → ServiceStandsFor self.old c (held library.now) steps → K.holds out.old start ps
+            → OnOk result (ServiceStandsFor self.new c (held library.now) (PacketStep packet.now ∷ steps)
+            × K.holds out.new start (ps ++ chain_at c (held library.now) packet.now steps)) }
+        ensures airs { (c : Config) (steps : List Step) (fed : List Aired) (start : Option (List ℕ)) (ps : List (List ℕ))
+            → ServiceAirs self.old c (held library.now) steps fed → K.holds out.old start ps
+            → OnOk result (PassedOnAir self.new c (held library.now) (judged packet.now) steps fed
+            (λ qs. K.holds out.new start (ps ++ qs))) }
+        ensures err { (c : Config) (steps : List Step) (start : Option (List ℕ)) (ps : List (List ℕ))
+            → ServiceStandsFor self.old c (held library.now) steps → K.holds out.old start ps
+            → IfErr result (λ f. PassFails f c (held library.now) packet.now steps (K.holds out.new start ps)
+            (λ put q x. K.fails out.new start (ps ++ put) q x)) }
+        ensures well { OnOk result (WentWell (K.counts out.old) (K.counts out.new)) }
+        ensures blamed { IfErr result (λ f. OutputBlamed (RunFault.Feed f)
+            (K.counts out.old) (K.counts out.new) (K.is_full out.new)) }
+        ensures config { self.new.config ≡ self.old.config }
+        ensures injector { (c : Config) (steps : List Step) → InjectsFor c self.old steps
+            → OnOk result (InjectsFor c self.new (PacketStep packet.now ∷ steps)) }
+    {
         match self.goes_on(packet) {
             Some(stream) => self.go_on(stream, packet, library, out),
             None => self.pass_on(packet, library, out),
@@ -186,21 +221,31 @@ impl Service {
     }
 
     /// The number of the switched stream in which the next packet of the network goes on with what came before it, where no request was accepted
-    /// since the last packet. `None` where it is no such packet. It is not taken.
+    /// since the last packet: it alone goes to the switch. `None` where it is no such packet. It is not taken.
     #[inline(always)]
     pub fn goes_on(&self, packet: &Packet) -> Option<usize>
         ensures below { IfSome result (λ stream. stream < 8) }
-        ensures alone { (c : Config) (steps : List Step) → InjectsFor c self.now steps
-            → IfSome result (λ stream. GoesOnAlone c stream packet.now steps) }
+        ensures goes_on { IfSome result (λ stream. GoesOnBy self.now stream packet.now) }
+        ensures told { (c : Config) (filed : ℕ → Option Advertisement) (steps : List Step) → ServiceStandsFor self.now c filed steps
+            → (stream : ℕ) → GoesOnBy self.now stream packet.now → result ≡ Some stream }
     {
-        self.injector.goes_on(packet)
+        let Some(stream) = self.injector.goes_on(packet) else {
+            return None;
+        };
+        let Some(read) = self.switch.goes_on(packet) else {
+            return None;
+        };
+        if read != stream {
+            return None;
+        }
+        Some(stream)
     }
 
-    /// Takes the next packet as [`Service::pass`] does, which goes on alone in the stream of this number: it alone goes to the switch.
+    /// Takes the next packet as [`Service::pass`] does, which goes on alone in the stream of this number.
     ///
     /// # Errors
     ///
-    /// As for [`Service::pass`].
+    /// `Sink` where the sink failed: it has a front of what the packet sends.
     #[inline(always)]
     pub fn go_on<K: PacketSink>(
         &mut self,
@@ -211,15 +256,15 @@ impl Service {
     ) -> Result<(), FeedFault>
         requires { stream < 8 }
         ensures leads { K.leads out.old out.new }
-        ensures ok { (c : Config) (steps : List Step) (start : Option (List ℕ)) (ps : List (List ℕ)) → GoesOnAlone c stream packet.now steps
+        ensures ok { (c : Config) (steps : List Step) (start : Option (List ℕ)) (ps : List (List ℕ)) → GoesOnBy self.old stream packet.now
             → ServiceStandsFor self.old c (held library.now) steps → K.holds out.old start ps
             → OnOk result (ServiceStandsFor self.new c (held library.now) (PacketStep packet.now ∷ steps)
             × K.holds out.new start (ps ++ chain_at c (held library.now) packet.now steps)) }
         ensures airs { (c : Config) (steps : List Step) (fed : List Aired) (start : Option (List ℕ)) (ps : List (List ℕ))
-            → GoesOnAlone c stream packet.now steps → ServiceAirs self.old c (held library.now) steps fed → K.holds out.old start ps
+            → GoesOnBy self.old stream packet.now → ServiceAirs self.old c (held library.now) steps fed → K.holds out.old start ps
             → OnOk result (PassedOnAir self.new c (held library.now) (judged packet.now) steps fed
             (λ qs. K.holds out.new start (ps ++ qs))) }
-        ensures err { (c : Config) (steps : List Step) (start : Option (List ℕ)) (ps : List (List ℕ)) → GoesOnAlone c stream packet.now steps
+        ensures err { (c : Config) (steps : List Step) (start : Option (List ℕ)) (ps : List (List ℕ)) → GoesOnBy self.old stream packet.now
             → ServiceStandsFor self.old c (held library.now) steps → K.holds out.old start ps
             → IfErr result (λ f. PassFails f c (held library.now) packet.now steps (K.holds out.new start ps)
             (λ put q x. K.fails out.new start (ps ++ put) q x)) }
@@ -227,12 +272,12 @@ impl Service {
         ensures blamed { IfErr result (λ f. OutputBlamed (RunFault.Feed f)
             (K.counts out.old) (K.counts out.new) (K.is_full out.new)) }
         ensures config { self.new.config ≡ self.old.config }
-        ensures injector { (c : Config) (steps : List Step) → GoesOnAlone c stream packet.now steps → InjectsFor c self.old steps
+        ensures injector { (c : Config) (steps : List Step) → GoesOnBy self.old stream packet.now → InjectsFor c self.old steps
             → InjectsFor c self.new (PacketStep packet.now ∷ steps) }
     {
         of_bytes(packet);
         self.injector.go_on(stream, packet);
-        match self.switch.feed_with_same(packet, library, out) {
+        match self.switch.go_on(stream, packet, library, out) {
             Ok(()) => Ok(()),
             Err(fault) => Err(fault),
         }

@@ -4,12 +4,9 @@ use Rattle.std.specs.List.{list_any}
 use Rattle.psi_section.specs.Assembling.{capped}
 use Rattle.scte104_codec.specs.Reading.{MessageReading}
 use Rattle.scte104_codec.specs.declared.reply.Reply.{Reply}
-use Rattle.psi_tables.specs.declared.config.Config.{Config}
 use Rattle.injector.specs.Steps.{Step, Message, packets_in}
-use Rattle.injector.specs.Injecting.{GoesOnAlone}
 use Rattle.ad_library.specs.declared.library.AdLibrary.{AdLibrary}
 use Rattle.ad_library.specs.Library.{held}
-use Rattle.chain_engine.specs.Stages.{InjectsFor}
 use Rattle.chain_engine.specs.Passing.{ServiceStandsFor}
 use Rattle.chain_engine.specs.Runs.{replies_by}
 use Rattle.chain_engine.specs.declared.service.Service.{Service}
@@ -23,10 +20,6 @@ pub record ServesAs (service : Service) (t : ServiceTerms) (steps : List Step) :
   pub taken : List Step
   pub stands : ServiceStandsFor service t.config t.filed taken
   pub own : own_steps t.config.index taken ≡ own_steps t.config.index steps
-
--- the packet goes on alone for a service, in the stream of this number, behind whatever steps the service has gone
-abbrev pub GoesOnBy : Service → ℕ → List ℕ → Type 0
-GoesOnBy service stream p = (c : Config) (steps : List Step) → InjectsFor c service steps → GoesOnAlone c stream p steps
 
 -- so has each of some services, by its terms
 abbrev pub AllServe : List Service → List ServiceTerms → List Step → Type 0

@@ -2,14 +2,14 @@
 
 ghost use Rattle.std.specs.Prelude.{◌≡◌, ◌<◌, ◌||◌, ◌++◌, ◌∷◌, ℕ, List, Option, OnOk, IfOk, IfErr, true, false};
 ghost use Rattle.ts_packet.specs.Transfers.{WentWell};
-ghost use Rattle.outgoing_packets.specs.Faults.{FeedBlamed};
 ghost use Rattle.injector.specs.Steps.{Step, Packet as PacketStep, packets_in};
 ghost use Rattle.ad_library.specs.Library.{held};
 ghost use Rattle.chain_engine.specs.Runs.{OutputBlamed};
+ghost use Rattle.chain_engine.specs.Passing.{GoesOnBy};
 ghost use Rattle.service_laws.specs.Services.{ServiceTerms, configs_of, given_at};
 ghost use Rattle.service_laws.specs.Faults.{share_a_pid};
 ghost use Rattle.chain_services.specs.Owners.{IsSkipped, AreSkipped};
-ghost use Rattle.chain_services.specs.Serving.{ServesAs, GoesOnBy, AllServe, DeskStandsFor, FiledAs, services_in};
+ghost use Rattle.chain_services.specs.Serving.{ServesAs, AllServe, DeskStandsFor, FiledAs, services_in};
 ghost use Rattle.chain_services.specs.Parts.{PassedOn, FailedOn, PassedOne, FailedOne, PassedEach, FailedEach, AllKnowSame, parts_of};
 
 use crate::desk::Desk;
@@ -109,6 +109,57 @@ fn pass_alone<K: PacketSink>(
     }
 }
 
+/// Passes a packet on through a service, whatever it is there: what it sends goes out where the packet is on one of its PIDs, and is the packet else.
+/// It stands by itself, since few packets go this way.
+///
+/// # Errors
+///
+/// As for [`Service::pass_on`].
+#[inline(never)]
+fn pass_closely<K: PacketSink>(
+    service: &mut Service,
+    library: &AdLibrary,
+    packet: &Packet,
+    out: &mut K,
+) -> Result<Passed, FeedFault>
+    ensures leads { K.leads out.old out.new }
+    ensures ok { (t : ServiceTerms) (steps : List Step) (start : Option (List ℕ)) (ps : List (List ℕ))
+        → held library.now ≡ t.filed → ServesAs service.old t steps → K.holds out.old start ps
+        → IfOk result (λ passed. PassedOne passed.is_own passed.learns service.new t packet.now steps
+        (λ l. K.holds out.new start (ps ++ l))) }
+    ensures err { (t : ServiceTerms) (steps : List Step) (start : Option (List ℕ)) (ps : List (List ℕ))
+        → held library.now ≡ t.filed → ServesAs service.old t steps → K.holds out.old start ps
+        → IfErr result (λ f. FailedOne f t packet.now steps (λ l. K.holds out.new start (ps ++ l))
+        (λ put q x. K.fails out.new start (ps ++ put) q x)) }
+    ensures well { OnOk result (WentWell (K.counts out.old) (K.counts out.new)) }
+    ensures blamed { IfErr result (λ f. OutputBlamed (RunFault.Feed f)
+        (K.counts out.old) (K.counts out.new) (K.is_full out.new)) }
+{
+    if service.owns(packet) {
+        return match pass_and_learn(service, library, packet, out) {
+            Ok(learns) => Ok(Passed {
+                is_own: true,
+                learns,
+            }),
+            Err(fault) => Err(fault),
+        };
+    }
+    if service.overlooks(packet) {
+        return Ok(Passed {
+            is_own: false,
+            learns: false,
+        });
+    }
+    let mut nowhere = Nowhere;
+    match pass_and_learn(service, library, packet, &mut nowhere) {
+        Ok(learns) => Ok(Passed {
+            is_own: false,
+            learns,
+        }),
+        Err(fault) => Err(fault),
+    }
+}
+
 /// Passes a packet on through a service: what it sends goes out where the packet is on one of its PIDs, and is the packet else. One that is
 /// kept from the service is not passed on, nor one that changes nothing of it: a packet on one of its PIDs may change it, so that one look-up
 /// is enough for that.
@@ -138,37 +189,17 @@ fn pass_one<K: PacketSink>(
     ensures blamed { IfErr result (λ f. OutputBlamed (RunFault.Feed f)
         (K.counts out.old) (K.counts out.new) (K.is_full out.new)) }
 {
-    let none = Passed {
-        is_own: false,
-        learns: false,
-    };
     if is_left_out {
         of_bytes(packet);
-        return Ok(none);
+        return Ok(Passed {
+            is_own: false,
+            learns: false,
+        });
     }
     if let Some(stream) = service.goes_on(packet) {
         return pass_alone(stream, service, library, packet, out);
     }
-    if service.owns(packet) {
-        return match pass_and_learn(service, library, packet, out) {
-            Ok(learns) => Ok(Passed {
-                is_own: true,
-                learns,
-            }),
-            Err(fault) => Err(fault),
-        };
-    }
-    if service.overlooks(packet) {
-        return Ok(none);
-    }
-    let mut nowhere = Nowhere;
-    match pass_and_learn(service, library, packet, &mut nowhere) {
-        Ok(learns) => Ok(Passed {
-            is_own: false,
-            learns,
-        }),
-        Err(fault) => Err(fault),
-    }
+    pass_closely(service, library, packet, out)
 }
 
 /// Passes a packet on through those of these services that take it, each with its library: all, or those whose bits are set.
@@ -228,7 +259,7 @@ fn pass_each<K: PacketSink>(
 /// # Errors
 ///
 /// As for [`pass_each`].
-#[inline(never)]
+#[inline(always)]
 fn pass_first<K: PacketSink>(
     services: &mut [Service],
     libraries: &[AdLibrary],
@@ -313,13 +344,13 @@ fn pass_some<K: PacketSink>(
 }
 
 impl<M: Allocator> Desk<M> {
-    /// Passes a packet on through the services that take it, of the first one and the others: all, or those whose bits are set.
+    /// Does what [`Desk::pass_through`] does. It stands by itself, so that a packet that no service takes does not pay for its room.
     ///
     /// # Errors
     ///
     /// As for [`pass_each`].
-    #[inline(always)]
-    fn pass_through<K: PacketSink>(
+    #[inline(never)]
+    fn pass_to_takers<K: PacketSink>(
         &mut self,
         all: bool,
         takers: u8,
@@ -368,6 +399,47 @@ impl<M: Allocator> Desk<M> {
             Ok(others) => Ok(joined(one, others)),
             Err(fault) => Err(fault),
         }
+    }
+
+    /// Passes a packet on through the services that take it, of the first one and the others: all, or those whose bits are set.
+    ///
+    /// # Errors
+    ///
+    /// As for [`pass_each`].
+    #[inline(always)]
+    fn pass_through<K: PacketSink>(
+        &mut self,
+        all: bool,
+        takers: u8,
+        packet: &Packet,
+        libraries: &[AdLibrary],
+        out: &mut K,
+    ) -> Result<Passed, FeedFault>
+        ensures leads { K.leads out.old out.new }
+        ensures ok { (ts : List ServiceTerms) (steps : List Step) (start : Option (List ℕ)) (ps : List (List ℕ))
+            → FiledAs libraries.now ts → AllServe (services_in self.old) ts steps
+            → (all ≡ false → AreSkipped takers ts packet.now steps) → K.holds out.old start ps
+            → IfOk result (λ passed. PassedEach passed.is_own passed.learns (services_in self.new) ts packet.now steps
+            (λ l. K.holds out.new start (ps ++ l))) }
+        ensures err { (ts : List ServiceTerms) (steps : List Step) (start : Option (List ℕ)) (ps : List (List ℕ))
+            → FiledAs libraries.now ts → AllServe (services_in self.old) ts steps
+            → (all ≡ false → AreSkipped takers ts packet.now steps) → K.holds out.old start ps
+            → IfErr result (λ f. FailedEach f ts packet.now steps (parts_of ts packet.now steps)
+            (λ l. K.holds out.new start (ps ++ l)) (λ put q x. K.fails out.new start (ps ++ put) q x)) }
+        ensures well { OnOk result (WentWell (K.counts out.old) (K.counts out.new)) }
+        ensures blamed { IfErr result (λ f. OutputBlamed (RunFault.Feed f)
+            (K.counts out.old) (K.counts out.new) (K.is_full out.new)) }
+        ensures counts { self.new.counts ≡ self.old.counts }
+        ensures owners { self.new.owners ≡ self.old.owners }
+    {
+        of_bytes(packet);
+        if leaves_out_all(all, takers) {
+            return Ok(Passed {
+                is_own: false,
+                learns: false,
+            });
+        }
+        self.pass_to_takers(all, takers, packet, libraries, out)
     }
 
     /// Passes a packet on: what the service sends on whose PIDs it is, or the packet alone. Whether more PIDs may be known of a service.

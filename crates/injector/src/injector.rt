@@ -164,6 +164,8 @@ impl Injector {
         ensures below { IfSome result (λ stream. stream < 8) }
         ensures alone { (c : Config) (past : List Step) → InjectorStandsFor self.now c past →
             IfSome result (λ stream. GoesOnAlone c stream packet.now past) }
+        ensures told { (c : Config) (past : List Step) → InjectorStandsFor self.now c past →
+            (stream : ℕ) → GoesOnAlone c stream packet.now past → result ≡ Some stream }
     {
         if self.is_spent || self.has_news {
             return None;

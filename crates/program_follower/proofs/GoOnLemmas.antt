@@ -1,22 +1,28 @@
 -- A packet that goes on with what came before it in a switched stream.
-use Rattle.std.proofs.Common.{◌≡◌, ℕ, List, [], ◌∷◌, Bool, true, false, not, ◌&&◌, if◌then◌else◌, refl, sym, ap, subst, ◌∙◌, Option, Some, None}
-use Rattle.std.specs.Prelude.{is_some, option_map}
+use Rattle.std.proofs.Common.{◌≡◌, ◌<◌, ◌≤◌, ◌+◌, arith, ℕ, List, [], ◌∷◌, Bool, true, false, not, ◌&&◌, if◌then◌else◌, refl, sym, ap, subst, ◌∙◌, Option, Some, None}
+use Rattle.std.specs.Prelude.{is_some, option_map, slice_index_or}
 use Rattle.std.specs.Option.{option_or}
 use Rattle.std.proofs.Math.Bool.{and-false}
 use Rattle.std.proofs.lemmas.Bool.{and_parts}
-use Rattle.ts_packet.specs.Fields.{on, payload, payload_on, scrambled, unit_start}
+use Rattle.ts_packet.specs.Fields.{in_error, pid_of, on, payload, payload_on, scrambled, unit_start}
 use Rattle.ts_packet.specs.Duplicates.{original}
+use Rattle.ts_packet.proofs.Cases.{by_test}
 use Rattle.unit_stream.specs.Times.{begins, high, splits, stamp}
 use Rattle.unit_stream.specs.Faults.{start_fault, unit_fault}
 use Rattle.program_follower.specs.declared.purpose.Listed.{Listed}
+use Rattle.program_follower.specs.declared.purpose.Purpose.{Purpose}
+use Rattle.program_follower.specs.declared.pid_uses.PidUse.TheVariants.{Table, Other}
 use Rattle.program_follower.specs.declared.starts.Starts.{Starts}
-use Rattle.program_follower.specs.Program.{listed, first_map, tables, known_map, Program, program_in, program_of}
-use Rattle.program_follower.specs.Streaming.{StartsRead, is_more, first_on}
-use Rattle.program_follower.specs.Following.{Since}
+use Rattle.program_follower.specs.Program.{listed, first_map, tables, known_map, program_in, program_of, pids_of}
+use Rattle.program_follower.specs.Streaming.{StartsRead, is_more, first_on, place_in}
+use Rattle.program_follower.specs.PidUses.{IsUse, HasUses}
+use Rattle.program_follower.specs.Following.{Since, IsMoreOf}
 use Rattle.psi_tables.specs.ProgramMap.{ProgramMap}
 use Rattle.program_follower.proofs.OptionLemmas.{option_or-none}
 use Rattle.program_follower.proofs.StreamLemmas.{fault_begin, payload_of}
 use Rattle.program_follower.proofs.StepLemmas.{known_grows, listed_stays}
+use Rattle.program_follower.proofs.PlaceLemmas.{no_place}
+use Rattle.program_follower.proofs.UseLemmas.{use_apart, use_numbered}
 
 -- ---- what such a packet is
 
@@ -40,6 +46,25 @@ module _ (p : List ℕ) (more : is_more p ≡ true) where
   more-sound pids past x e =
       let n : payload_on x.1 p && scrambled p ≡ false = ap (λ b. payload_on x.1 p && b) (not-true (scrambled p) more-parts.1.0) ∙ and-false (payload_on x.1 p) in
       fault_begin pids p past x e None n (ap (λ b. if b then start_fault (high pids past) (splits p) (stamp p) else None) (more-begins-none x.1 past))
+
+-- ---- under which number it is looked up
+
+pub more-good : (pids : List ℕ) (p : List ℕ) (stream : ℕ) → Some stream ≡ place_in pids p → in_error p ≡ false
+more-good pids p stream here = by_test (in_error p) (λ bad. absurd (let none = no_place pids p bad in cc)) (λ good. good)
+
+module _ (numbers : List ℕ) (c : Purpose) (p : List ℕ) (past : List (List ℕ)) (has : HasUses numbers c past) (within : pid_of p < 8192)
+    (stream : ℕ) (m : IsMoreOf c stream p past) where
+  more-number : slice_index_or numbers (pid_of p) 0 ≡ stream + 1
+  more-number = use_numbered numbers c p past has stream within (more-good (pids_of (program_of c.program past)) p stream m.here) m.elsewhere m.here
+
+  more-apart : slice_index_or numbers (pid_of p) 0 ≤ 8
+  more-apart = use_apart numbers c p past has within (more-good (pids_of (program_of c.program past)) p stream m.here) m.elsewhere
+
+  pub no-table : IsUse Table (slice_index_or numbers (pid_of p) 0) → ⊥
+  no-table above = let below = more-apart in absurd (omega arith)
+
+  pub no-other : IsUse Other (slice_index_or numbers (pid_of p) 0) → ⊥
+  no-other zero = let some = more-number in absurd (omega arith)
 
 -- ---- a map is known behind the PAT alone
 

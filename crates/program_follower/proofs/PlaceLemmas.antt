@@ -1,5 +1,5 @@
 -- The table of the places of the switched streams.
-use Rattle.std.proofs.Common.{◌≡◌, ℕ, ◌+◌, ◌<◌, ◌≤◌, List, [], ◌∷◌, true, false, not, ◌&&◌, ◌==◌, refl, sym, ap, ◌∙◌, arith, length, if◌then◌else◌, Option, Some, None}
+use Rattle.std.proofs.Common.{◌≡◌, ℕ, ◌+◌, ◌<◌, ◌≤◌, List, [], ◌∷◌, true, false, not, ◌&&◌, ◌==◌, refl, sym, ap, subst, ◌∙◌, arith, length, if◌then◌else◌, Option, Some, None}
 use Rattle.std.specs.Prelude.{option_map, ◌≢◌, slice_index_or, drop, replicate}
 use Rattle.std.proofs.lemmas.Bool.{eqb-true, eq-eqb}
 use Rattle.std.proofs.Math.ListN.{set}
@@ -33,6 +33,9 @@ set_are numbers i v lt le are pid h =
 
 pub zeros_elsewhere : HasPlacesElsewhere (replicate 8192 0) []
 zeros_elsewhere p good lt le = get_or-replicate 8192 (pid_of p) 0 0 lt
+
+pub zeros_small : (pid : ℕ) → pid < 8192 → slice_index_or (replicate 8192 0) pid 0 ≤ 8
+zeros_small pid lt = let small : 0 ≤ 8 = omega arith in subst (λ (n : ℕ). n ≤ 8) (sym (get_or-replicate 8192 pid 0 0 lt)) small
 
 -- ---- the places, from the last stream to the first
 

@@ -4,22 +4,23 @@ use Rattle.std.specs.Prelude.{option_map, ◌≢◌, slice_index_or, replicate}
 use Rattle.std.proofs.lemmas.Bool.{eqb-true, eq-eqb, ltb-true, ltb-false}
 use Rattle.std.proofs.Math.ListN.{set}
 use Rattle.std.proofs.lemmas.List.{get_or-set_same, get_or-set_other, get_or-replicate}
-use Rattle.ts_packet.specs.Fields.{in_error, pid_of}
+use Rattle.ts_packet.specs.Fields.{in_error, pid_of, on}
 use Rattle.ts_packet.proofs.Cases.{by_test}
 use Rattle.program_follower.specs.declared.purpose.Purpose.{Purpose}
 use Rattle.program_follower.specs.declared.purpose.Listed.{Listed}
 use Rattle.program_follower.specs.declared.starts.Starts.{Starts}
-use Rattle.program_follower.specs.Program.{listed, Program, program_of, behind_head, pids_of}
-use Rattle.program_follower.specs.Faults.{as_network, network_fault}
+use Rattle.program_follower.specs.Program.{listed, pmt_pid_of, Program, program_of, behind_head, pids_of}
+use Rattle.program_follower.specs.Faults.{as_network, network_fault, on_cue}
 use Rattle.program_follower.specs.declared.map_reader.MapReader.{MapReader}
 use Rattle.program_follower.specs.Standing.{or_zero, MapsRead}
 use Rattle.program_follower.specs.Streaming.{first_on, place_in, numbered, StartsRead}
 use Rattle.program_follower.specs.PidUses.{IsTablePid, HasPlacesElsewhere, HasUses}
-use Rattle.program_follower.specs.Following.{Since, grown, IsElsewhere}
+use Rattle.program_follower.specs.Following.{Since, grown, on_map, IsElsewhere}
 use Rattle.program_follower.proofs.StreamLemmas.{none_fault, starts_read_off}
-use Rattle.program_follower.proofs.PlaceLemmas.{no_place, unplaced}
+use Rattle.program_follower.proofs.PlaceLemmas.{on_good, no_place, unplaced}
 use Rattle.program_follower.proofs.ElsewhereLemmas.{off_other, off_cue, off_map, listed_same, program_same, fault_elsewhere}
 use Rattle.program_follower.proofs.FollowLemmas.{streams_next}
+use Rattle.program_follower.proofs.StepLemmas.{listed_stays}
 
 -- ---- how it is filled
 
@@ -46,6 +47,13 @@ stream_kept numbers pid v other le is =
     let apart : other ≢ pid = (λ e. let same = ap (λ (k : ℕ). slice_index_or numbers k 0) e in omega arith) in
     let e = get_or-set_other numbers pid other v 0 apart in omega arith
 
+pub stream_rest : (numbers : List ℕ) (pid v other : ℕ) → pid < length numbers → v ≤ 8 → slice_index_or numbers other 0 ≤ 8
+    → slice_index_or (set numbers pid v) other 0 ≤ 8
+stream_rest numbers pid v other lt small le =
+    by_test (other == pid)
+    (λ y. let e = ap (λ (k : ℕ). slice_index_or (set numbers pid v) k 0) (eqb-true other pid y) ∙ get_or-set_same numbers pid v 0 lt in omega arith)
+    (λ n. let apart : other ≢ pid = (λ e. let k = eq-eqb other pid e in absurd (cc)) in let e = get_or-set_other numbers pid other v 0 apart in omega arith)
+
 -- all PIDs of tables
 pub all_tables : (pid : ℕ) → pid < 8192 → IsTablePid (slice_index_or (replicate 8192 9) pid 0)
 all_tables pid lt = let above : IsTablePid 9 = omega arith in subst IsTablePid (sym (get_or-replicate 8192 pid 9 0 lt)) above
@@ -69,6 +77,19 @@ some_numbered : (o : Option ℕ) (i : ℕ) → i + 1 ≡ numbered o → Some i �
 some_numbered None i e = absurd (omega arith)
 some_numbered (Some j) i e = let same : i ≡ j = omega arith in ap (λ (k : ℕ). let y : Option ℕ = Some k in y) same
 
+-- the PID of a packet that is not marked in error is none on which it is not
+here_other : (pid : ℕ) (p : List ℕ) → in_error p ≡ false → on pid p ≡ false → pid_of p ≢ pid
+here_other pid p good off e = let y = on_good p good pid e in absurd (cc)
+
+here_cue : (o : Option ℕ) (p : List ℕ) → in_error p ≡ false → on 0 p ≡ false → on_cue o p ≡ false → pid_of p ≢ or_zero o
+here_cue None p good pat off = here_other 0 p good pat
+here_cue (Some pid) p good pat off = here_other pid p good off
+
+here_map : (o : Option Listed) (p : List ℕ) → in_error p ≡ false → on 0 p ≡ false → on_map o p ≡ false
+    → pid_of p ≢ or_zero (option_map (λ (l : Listed). l.pid) o)
+here_map None p good pat off = here_other 0 p good pat
+here_map (Some l) p good pat off = here_other l.pid p good off
+
 module _ (numbers : List ℕ) (c : Purpose) (p : List ℕ) (past : List (List ℕ)) (has : HasUses numbers c past) where
   pub use_elsewhere : slice_index_or numbers (pid_of p) 0 ≤ 8 → IsElsewhere c p past
   use_elsewhere le =
@@ -90,15 +111,27 @@ module _ (numbers : List ℕ) (c : Purpose) (p : List ℕ) (past : List (List �
       → Some i ≡ place_in (pids_of (program_of c.program past)) p
   use_stream i within is le good = some_numbered (place_in (pids_of (program_of c.program past)) p) i (sym is ∙ has.places p good within le)
 
+  -- a packet that is on no PID of tables or cues, and not marked in error, is under no number of these
+  pub use_apart : pid_of p < 8192 → in_error p ≡ false → IsElsewhere c p past → slice_index_or numbers (pid_of p) 0 ≤ 8
+  use_apart within good e = has.rest (pid_of p) within (here_other 0 p good e.pat) (here_cue c.cue_pid p good e.pat e.cue) (here_map (listed c.program past) p good e.pat e.map)
+
+  -- and one of a stream under the number of that
+  pub use_numbered : (i : ℕ) → pid_of p < 8192 → in_error p ≡ false → IsElsewhere c p past → Some i ≡ place_in (pids_of (program_of c.program past)) p
+      → slice_index_or numbers (pid_of p) 0 ≡ i + 1
+  use_numbered i within good e here = has.places p good within (use_apart within good e) ∙ sym (ap numbered here)
+
   -- a packet that is on no PID of tables or cues changes nothing
   pub uses_passed : IsElsewhere c p past → HasUses numbers c (p ∷ past)
   uses_passed e =
       let Map : Option Listed → Type 0 = λ o. IsTablePid (slice_index_or numbers (or_zero (option_map (λ (l : Listed). l.pid) o)) 0) in
+      let Rest : Option Listed → Type 0 = λ o. (pid : ℕ) → pid < 8192 → pid ≢ 0 → pid ≢ or_zero c.cue_pid → pid ≢ or_zero (option_map (λ (l : Listed). l.pid) o)
+      → slice_index_or numbers pid 0 ≤ 8 in
       let Places : Option Program → Type 0 = λ r. HasPlacesElsewhere numbers (pids_of r) in
       record {
         pat = has.pat;
         cue = has.cue;
         map = subst Map (sym (listed_same c p past e)) has.map;
+        rest = subst Rest (sym (listed_same c p past e)) has.rest;
         places = subst Places (sym (program_same c p past e)) has.places;
       }
 
@@ -134,6 +167,14 @@ module _ (c : Purpose) (p : List ℕ) (past : List (List ℕ)) (e : IsElsewhere 
 
   pub sound_off : (r : MapReader) → MapsRead r c.program past → first_on (pids_of (program_of c.program past)) p ≡ None → network_fault c p past ≡ None
   sound_off r h off = fault_elsewhere c p past e r h ∙ ap as_network (none_fault (pids_of (program_of c.program past)) p (behind_head c.program past) off)
+
+-- the PID of the map stays that once it is listed
+pub not_before : (wanted : Option ℕ) (p : List ℕ) (past : List (List ℕ)) (pid : ℕ) → pid ≢ 0 → pid ≢ or_zero (pmt_pid_of wanted (p ∷ past))
+    → pid ≢ or_zero (pmt_pid_of wanted past)
+not_before wanted p past pid pat map = by (listed wanted past) refl where
+  by : (o : Option Listed) → listed wanted past ≡ o → pid ≢ or_zero (option_map (λ (l : Listed). l.pid) (listed wanted past))
+  by None e = subst (λ x. pid ≢ or_zero (option_map (λ (l : Listed). l.pid) x)) (sym e) pat
+  by (Some l) e = subst (λ x. pid ≢ or_zero (option_map (λ (l : Listed). l.pid) x)) (listed_stays wanted p past l e ∙ sym e) map
 
 -- nothing is followed in the head
 pub none_since : (r : Option Program) (b : List (List ℕ)) → Since StartsRead None r b → pids_of r ≡ []

@@ -1,6 +1,6 @@
 //! What the packets of each PID are to a follower, looked up at once.
 
-ghost use Rattle.std.specs.Prelude.{◌≡◌, ◌<◌, ◌≤◌, ◌+◌, ℕ, [], List, length, nat_lt, if◌then◌else◌, slice_index_or, slice_set, true};
+ghost use Rattle.std.specs.Prelude.{◌≡◌, ◌≢◌, ◌<◌, ◌≤◌, ◌+◌, ℕ, [], List, length, nat_lt, if◌then◌else◌, slice_index_or, slice_set, true};
 ghost use Rattle.ts_packet.specs.Fields.{pid_of};
 ghost use Rattle.program_follower.specs.Faults.{pids_in};
 ghost use Rattle.program_follower.specs.PidUses.{IsTablePid, IsUse, HasPlacesElsewhere};
@@ -46,6 +46,7 @@ impl PidUses {
     pub(crate) fn new(cue_pid: Pid) -> PidUses
         ensures pat { IsTablePid (slice_index_or result 0 0) }
         ensures cue { IsTablePid (slice_index_or result cue_pid 0) }
+        ensures rest { (pid : ℕ) → pid < 8192 → pid ≢ 0 → pid ≢ cue_pid → slice_index_or result pid 0 ≤ 8 }
         ensures places { HasPlacesElsewhere result [] }
     {
         let mut uses = PidUses { numbers: [0; 8192] };
@@ -66,6 +67,7 @@ impl PidUses {
         ensures here { IsTablePid (slice_index_or self.new pid 0) }
         ensures kept { (other : ℕ) → IsTablePid (slice_index_or self.old other 0)
             → IsTablePid (slice_index_or self.new other 0) }
+        ensures others { (other : ℕ) → other ≢ pid → slice_index_or self.new other 0 ≡ slice_index_or self.old other 0 }
         ensures places { (pids : List ℕ) → HasPlacesElsewhere self.old pids → HasPlacesElsewhere self.new pids }
     {
         self.numbers[pid.get() as usize] = TABLE_PID;
@@ -77,6 +79,7 @@ impl PidUses {
         requires { length streams.now ≤ 8 }
         ensures kept { (other : ℕ) → IsTablePid (slice_index_or self.old other 0)
             → IsTablePid (slice_index_or self.new other 0) }
+        ensures rest { (other : ℕ) → slice_index_or self.old other 0 ≤ 8 → slice_index_or self.new other 0 ≤ 8 }
         ensures places { HasPlacesElsewhere self.old [] → HasPlacesElsewhere self.new (pids_in streams.now) }
     {
         let mut index = streams.len();

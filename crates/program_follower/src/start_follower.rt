@@ -1,7 +1,7 @@
 //! One program of a network, followed by where its units begin.
 
 ghost use Rattle.std.specs.Prelude.{◌≡◌, ◌<◌, ◌≤◌, ◌+◌, ◌∷◌, ◌++◌, [], ℕ, List, length, slice_index_or, Option, Some, None};
-ghost use Rattle.std.specs.Prelude.{option_map, true, OnOk, OnSome, IfOk, IfErr, IfSome};
+ghost use Rattle.std.specs.Prelude.{option_map, true, OnOk, IfOk, IfErr, IfSome};
 ghost use Rattle.arrayvec.specs.ArrayVec.{array_vec_len};
 ghost use Rattle.ts_packet.specs.Fields.{on_one};
 ghost use Rattle.pes_time.specs.Line.{ring_of};
@@ -130,9 +130,12 @@ impl StartFollower {
     pub fn goes_on(&self, packet: &Packet) -> Option<usize>
         ensures below { IfSome result (λ stream. stream < 8) }
         ensures goes_on { OfStartPast self.now (λ c past. IfSome result (λ stream. IsMoreOf c stream packet.now past)) }
+        ensures told { OfStartPast self.now (λ c past. (stream : ℕ) → IsMoreOf c stream packet.now past → result ≡ Some stream) }
     {
-        let PidUse::Stream(index) = self.uses.use_of(packet) else {
-            return None;
+        let index = match self.uses.use_of(packet) {
+            PidUse::Stream(index) => index,
+            PidUse::Table => return None,
+            PidUse::Other => return None,
         };
         let Some(_streams) = &self.streams else {
             return None;
@@ -420,6 +423,7 @@ fn follow_begins(
     ensures err { OfBegins streams.old (lent_program known.entry) (λ r past.
         IfErr result (λ f. unit_fault (pids_of r) packet.now past ≡ Some f)) }
     ensures kept { (pid : ℕ) → IsTablePid (slice_index_or uses.old pid 0) → IsTablePid (slice_index_or uses.new pid 0) }
+    ensures rest { (pid : ℕ) → slice_index_or uses.old pid 0 ≤ 8 → slice_index_or uses.new pid 0 ≤ 8 }
     ensures places { OfBegins streams.old (lent_program known.entry) (λ r past. HasPlacesElsewhere uses.old (pids_of r)
         → HasPlacesElsewhere uses.new (pids_of (lent_program known.entry))) }
 {
@@ -446,6 +450,7 @@ fn begin(streams: &mut Option<Starts>, uses: &mut PidUses, switched: &[Stream])
     requires { length switched.now ≤ 8 }
     ensures reads { (r : Program) → r.streams ≡ switched.now → StartsSince streams.new (Some r) [] }
     ensures kept { (pid : ℕ) → IsTablePid (slice_index_or uses.old pid 0) → IsTablePid (slice_index_or uses.new pid 0) }
+    ensures rest { (pid : ℕ) → slice_index_or uses.old pid 0 ≤ 8 → slice_index_or uses.new pid 0 ≤ 8 }
     ensures places { HasPlacesElsewhere uses.old [] → HasPlacesElsewhere uses.new (pids_in switched.now) }
 {
     *streams = Some(Starts::new(switched));

@@ -1,6 +1,6 @@
 -- Services that take a packet, behind some that do not: these stay as they are.
 use Rattle.std.proofs.Common.{◌≡◌, ◌+◌, ◌/◌, ℕ, length, List, [], ◌∷◌, ◌++◌, Bool, true, false, ◌||◌, take, drop, refl, sym, ap, subst, ◌∙◌, arith}
-use Rattle.std.specs.Prelude.{if◌then◌else◌, Result, Ok, Err, OnOk}
+use Rattle.std.specs.Prelude.{if◌then◌else◌, Result, Ok, Err, OnOk, Option, Some, None, IfSome}
 use Rattle.std.specs.List.{list_any}
 use Rattle.std.proofs.lemmas.List.{length-append, take-append-drop}
 use Rattle.ts_packet.specs.Fields.{pid_of}
@@ -13,7 +13,7 @@ use Rattle.services_on_air.specs.Airing.{Airing, nexts, owns, leaves, learns, is
 use Rattle.services_on_air.specs.Histories.{Gone, HasGone, begins_anew, gone_on, gone_settled, put_settled, put_own, aired_as}
 use Rattle.services_on_air.specs.Standing.{AllStand, AllSettled}
 use Rattle.services_on_air.specs.Serving.{AllGone, gones_settled, puts_settled, gones_on, puts_on}
-use Rattle.services_on_air.specs.Owners.{AllJudged, MayAllStay, AreLeftOut}
+use Rattle.services_on_air.specs.Owners.{AllJudged, MayAllStay, AreLeftOut, TakerGoesOn}
 use Rattle.services_on_air.specs.declared.service.AirService.{AirService}
 use Rattle.services_on_air.proofs.ServiceLemmas.{leaves-is}
 use Rattle.services_on_air.proofs.BesideLemmas.{stays-same, stays-settled, left-out, stays-behind, stays-passed, stays-gone}
@@ -209,3 +209,23 @@ fewer-behind l front back x f y n whole many long one other = let e = ap length 
 pub on-ok : {T E : Type 0} (r : Result T E) (P Q : Type 0) → (P → Q) → OnOk r P → OnOk r Q
 on-ok (Ok x) P Q so h = so h
 on-ok (Err e) P Q so h = tt
+
+pub if-some : {T : Type 0} (o : Option T) (P Q : T → Type 0) → ((x : T) → P x → Q x) → IfSome o P → IfSome o Q
+if-some (Some x) P Q so h = so x h
+if-some None P Q so h = tt
+
+pub none-said : {T : Type 0} (o : Option T) (P : T → Type 0) → o ≡ None → IfSome o P
+none-said o P none = subst (λ x. IfSome x P) (sym none) tt
+
+-- ---- the one that alone takes the packet
+
+pub taker-behind : (front new : List AirService) (left takers stream : ℕ) (p : List ℕ) → IsShifted (length front) left takers → left ≡ 1 → TakerGoesOn 1 new stream p
+    → TakerGoesOn takers (front ++ new) stream p
+taker-behind [] new left takers stream p shifted one h = subst (λ n. TakerGoesOn n new stream p) (sym one ∙ shifted) h
+taker-behind (s ∷ front) new left takers stream p shifted one h =
+    (λ only. let even = shifted.0 in absurd (omega arith), λ bit. taker-behind front new left (takers / 2) stream p shifted.1 one h)
+
+pub taker-apart : (front back : List AirService) (left takers stream : ℕ) (p : List ℕ) → IsShifted (length front) left takers → left ≡ 1 → TakerGoesOn takers (front ++ back) stream p
+    → TakerGoesOn 1 back stream p
+taker-apart [] back left takers stream p shifted one h = subst (λ n. TakerGoesOn n back stream p) (sym shifted ∙ one) h
+taker-apart (s ∷ front) back left takers stream p shifted one h = taker-apart front back left (takers / 2) stream p shifted.1 one (h.1 shifted.0)

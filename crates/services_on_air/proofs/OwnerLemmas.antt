@@ -5,6 +5,7 @@ use Rattle.std.specs.List.{list_any}
 use Rattle.std.proofs.Math.ListN.{set}
 use Rattle.std.proofs.lemmas.Bool.{or_parts, eqb-true, eqb-false}
 use Rattle.std.proofs.lemmas.List.{get_or-set_same, get_or-set_other}
+use Rattle.ts_packet.specs.Fields.{pid_of}
 use Rattle.ts_packet.proofs.Cases.{by_test}
 use Rattle.scte104_codec.specs.declared.reply.Reply.{Reply}
 use Rattle.injector.specs.declared.requests.Requests.{Requests}
@@ -14,7 +15,7 @@ use Rattle.services_on_air.specs.Airing.{Airing, nexts, learns}
 use Rattle.service_laws.specs.Services.{ServiceTerms}
 use Rattle.services_on_air.specs.Histories.{Gone, begins_anew}
 use Rattle.services_on_air.specs.Serving.{AllGone, AnswersNone, DeskGone}
-use Rattle.services_on_air.specs.Standing.{AirDeskJudges, DeskLeavesOut}
+use Rattle.services_on_air.specs.Standing.{AirDeskJudges, DeskLeavesOut, StillTold}
 use Rattle.services_on_air.specs.Owners.{IsBeside, IsBesideAhead, LeavesOutOnAir, IsToldBy, HasOwnersOnAir, HasOwnersAhead, AllJudged, MayStay, MayAllStay, IsLeftOut, AreLeftOut}
 use Rattle.services_on_air.specs.declared.service.AirService.{AirService}
 use Rattle.services_on_air.specs.declared.desk.AirDesk.{AirDesk}
@@ -154,9 +155,10 @@ pub left-told : (owners : List ℕ) (takers pid : ℕ) (asks all : Bool) (ss : L
     → (all ≡ false → AreLeftOut takers ss pid ys) → asks ≡ false → slice_index_or owners pid 0 < 255 → AreLeftOut (slice_index_or owners pid 0) ss pid ys
 left-told owners takers pid asks all ss ys is not_all h = λ quiet below. subst (λ n. AreLeftOut n ss pid ys) is (h (not_all quiet (subst (λ n. n < 255) (sym is) below)))
 
-pub left-all : (owners : List ℕ) (takers pid : ℕ) (asks all : Bool) (ss : List AirService) (ys : List Airing) → takers ≡ slice_index_or owners pid 0 → (all ≡ false → asks ≡ false)
+pub left-all : (owners : List ℕ) (takers pid : ℕ) (asks all : Bool) (ss : List AirService) (ys : List Airing) → (asks ≡ false → takers ≡ slice_index_or owners pid 0) → (all ≡ false → asks ≡ false)
     → (all ≡ false → takers < 255) → (asks ≡ false → slice_index_or owners pid 0 < 255 → AreLeftOut (slice_index_or owners pid 0) ss pid ys) → all ≡ false → AreLeftOut takers ss pid ys
-left-all owners takers pid asks all ss ys is open_so told left none = subst (λ n. AreLeftOut n ss pid ys) (sym is) (left (open_so none) (subst (λ n. n < 255) is (told none)))
+left-all owners takers pid asks all ss ys known open_so told left none =
+    let is = known (open_so none) in subst (λ n. AreLeftOut n ss pid ys) (sym is) (left (open_so none) (subst (λ n. n < 255) is (told none)))
 
 -- ---- the packet is settled
 
@@ -169,6 +171,11 @@ pub settled-left : {M : Type 0} (mid new : AirDesk M) (b : Bool) (p : List ℕ) 
     → DeskLeavesOut mid p ys → DeskLeavesOut new p ys
 settled-left mid new true p ys anew same h = λ quiet below. absurd (let no : true ≡ false = sym (anew refl).1 ∙ quiet in cc)
 settled-left {M} mid new false p ys anew same h = subst (λ (d : AirDesk M). DeskLeavesOut d p ys) (sym (same refl)) h
+
+pub settled-told : {M : Type 0} (mid new : AirDesk M) (b : Bool) (takers : ℕ) (p : List ℕ) → (b ≡ true → AllTake new.owners × (new.asks_all ≡ true)) → (b ≡ false → new ≡ mid)
+    → takers ≡ slice_index_or mid.owners (pid_of p) 0 → StillTold new takers p
+settled-told mid new true takers p anew same is = λ quiet. absurd (let no : true ≡ false = sym (anew refl).1 ∙ quiet in cc)
+settled-told {M} mid new false takers p anew same is = λ quiet. subst (λ (d : AirDesk M). takers ≡ slice_index_or d.owners (pid_of p) 0) (sym (same refl)) is
 
 -- the services stay, and what answers the messages for none
 pub moved-gone : {M : Type 0} (new : AirDesk M) (items : List AirService) (none : Requests) (ts : List ServiceTerms) (gs : List Gone) → new.services.items ≡ items → new.none ≡ none → AllGone items ts gs

@@ -1,12 +1,12 @@
 -- One service: what becomes of a packet in its stretch, and behind it.
-use Rattle.std.proofs.Common.{◌≡◌, ℕ, ◌+◌, List, [], ◌∷◌, ◌++◌, length, Bool, true, false, not, refl, sym, ap, subst, ◌∙◌, arith}
-use Rattle.std.specs.Prelude.{if◌then◌else◌, ◌==◌, Some, option_map, option_to_list}
+use Rattle.std.proofs.Common.{◌≡◌, ℕ, ◌+◌, List, [], ◌∷◌, length, Bool, true, false, not, refl, sym, ap, subst, ◌∙◌, arith}
+use Rattle.std.specs.Prelude.{if◌then◌else◌, ◌==◌, None, Some}
 use Rattle.std.proofs.lemmas.Bool.{eq-eqb}
 use Rattle.ts_packet.specs.Fields.{marked, on_one}
-use Rattle.program_follower.specs.declared.purpose.Listed.{Listed}
-use Rattle.program_follower.specs.Program.{listed, program_of, pids_of, known_pids}
+use Rattle.program_follower.specs.Program.{known_pids}
 use Rattle.program_follower.specs.Following.{IsElsewhere}
-use Rattle.program_follower.proofs.ElsewhereLemmas.{listed_same, program_same}
+use Rattle.service_laws.specs.Services.{ServiceTerms}
+use Rattle.chain_services.proofs.UnfollowedLemmas.{elsewhere-same}
 use Rattle.injector.specs.Steps.{Step, Packet as PacketStep, packets_in}
 use Rattle.injector.specs.Injecting.{InjectorStandsFor}
 use Rattle.chain_engine.specs.Followed.{HasFollowed}
@@ -199,9 +199,7 @@ learns-is a known now steps k f is =
 pub learns-none : (a : Airing) (p : List ℕ) (steps : List Step) → IsElsewhere (writing_cues a.config) p (packets_in steps) → packets_in steps ≡ as_read (before_last (newest a.stretches))
     → p ∷ packets_in steps ≡ as_read (newest a.stretches) → false ≡ learns a
 learns-none a p steps e before now =
+    let t : ServiceTerms = record { config = a.config; filed = λ k. None } in
     let pids : List (List ℕ) → List ℕ = known_pids (Some a.config.program) in
     let n = length (pids (packets_in steps)) in
-    let same : pids (p ∷ packets_in steps) ≡ pids (packets_in steps) =
-    ap (λ o. option_to_list (option_map (λ (l : Listed). l.pid) o) ++ pids_of (program_of (Some a.config.program) (p ∷ packets_in steps))) (listed_same (writing_cues a.config) p (packets_in steps) e)
-    ∙ ap (λ r. option_to_list (option_map (λ (l : Listed). l.pid) (listed (Some a.config.program) (packets_in steps))) ++ pids_of r) (program_same (writing_cues a.config) p (packets_in steps) e) in
-    sym (ap not (eq-eqb n n refl)) ∙ learns-is a n n (PacketStep p ∷ steps) (ap (λ l. length (pids l)) before) (ap length (sym same)) now
+    sym (ap not (eq-eqb n n refl)) ∙ learns-is a n n (PacketStep p ∷ steps) (ap (λ l. length (pids l)) before) (ap length (sym (elsewhere-same t p (packets_in steps) e))) now

@@ -1,6 +1,7 @@
 -- Which services take the packets of a PID: the others need not be shown them.
 use Rattle.std.specs.Prelude.{◌≡◌, ◌<◌, ◌%◌, ◌/◌, ℕ, false, List, [], ◌∷◌, slice_index_or, Some}
 use Rattle.program_follower.specs.Following.{IsUnfollowed}
+use Rattle.chain_engine.specs.Passing.{GoesOnBy}
 use Rattle.on_air.specs.Stretches.{Entry, as_read}
 use Rattle.on_air.specs.AirRuns.{newest, has_no}
 use Rattle.services_on_air.specs.Airing.{Airing, before_last}
@@ -61,3 +62,8 @@ abbrev pub AreLeftOut : ℕ → List AirService → ℕ → List Airing → Type
 AreLeftOut takers [] pid ys = Unit {0}
 AreLeftOut takers (s ∷ ss) pid [] = Unit {0}
 AreLeftOut takers (s ∷ ss) pid (a ∷ ys) = (takers % 2 ≡ 0 → IsLeftOut s pid a) × AreLeftOut (takers / 2) ss pid ys
+
+-- where one of them alone takes the packet that is settled, it goes on alone for that one, in this stream
+abbrev pub TakerGoesOn : ℕ → List AirService → ℕ → List ℕ → Type 0
+TakerGoesOn takers [] stream p = Unit {0}
+TakerGoesOn takers (s ∷ ss) stream p = (takers ≡ 1 → GoesOnBy s.service stream p) × (takers % 2 ≡ 0 → TakerGoesOn (takers / 2) ss stream p)

@@ -1,5 +1,5 @@
 -- What several services on air stand for, packet by packet.
-use Rattle.std.specs.Prelude.{◌≡◌, ◌<◌, ℕ, ◌+◌, List, [], ◌∷◌, ◌++◌, reverse, length, true, false, not, slice_index_or}
+use Rattle.std.specs.Prelude.{◌≡◌, ◌<◌, ℕ, ◌+◌, List, [], ◌∷◌, ◌++◌, reverse, length, Option, IfSome, true, false, not, slice_index_or}
 use Rattle.std.specs.List.{list_any}
 use Rattle.ts_packet.specs.Fields.{pid_of}
 use Rattle.ts_packet.specs.Packets.{packets_of}
@@ -20,7 +20,7 @@ use Rattle.service_laws.specs.Services.{ServiceTerms}
 use Rattle.chain_services.specs.Serving.{CountsReplies}
 use Rattle.services_on_air.specs.Histories.{Gone}
 use Rattle.services_on_air.specs.Serving.{DeskGone, gones_asked, reply_by_gone}
-use Rattle.services_on_air.specs.Owners.{HasOwnersOnAir, HasOwnersAhead, AllJudged, AreLeftOut}
+use Rattle.services_on_air.specs.Owners.{HasOwnersOnAir, HasOwnersAhead, AllJudged, AreLeftOut, TakerGoesOn}
 use Rattle.services_on_air.specs.declared.service.AirService.{AirService}
 use Rattle.services_on_air.specs.declared.service.Passed.{Passed}
 use Rattle.services_on_air.specs.declared.desk.AirDesk.{AirDesk}
@@ -99,6 +99,13 @@ pub record AirDeskJudges {M : Type 0} (old : AirDesk M) (m : MessageReading) (re
 abbrev pub DeskLeavesOut : {M : Type 0} → AirDesk M → List ℕ → List Airing → Type 0
 DeskLeavesOut desk p ys = desk.asks_all ≡ false → slice_index_or desk.owners (pid_of p) 0 < 255
     → AreLeftOut (slice_index_or desk.owners (pid_of p) 0) desk.services.items (pid_of p) ys
+
+-- and it is known which take it, and in which stream it goes on alone for the one that alone does
+abbrev pub StillTold : {M : Type 0} → AirDesk M → ℕ → List ℕ → Type 0
+StillTold desk takers p = desk.asks_all ≡ false → takers ≡ slice_index_or desk.owners (pid_of p) 0
+
+abbrev pub StillGoesOn : {M : Type 0} → AirDesk M → ℕ → Option ℕ → List ℕ → Type 0
+StillGoesOn desk takers goes_on p = desk.asks_all ≡ false → IfSome goes_on (λ stream. TakerGoesOn takers desk.services.items stream p)
 
 -- and unless all are to be shown the next one, none left the last one unjudged
 abbrev pub DeskJudged : {M : Type 0} → AirDesk M → Type 0

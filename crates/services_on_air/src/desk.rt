@@ -100,15 +100,15 @@ impl<M: Allocator> AirDesk<M> {
         self.asks_all = true;
     }
 
-    /// Looks up which services take the packets of the PID of this one, where it is not told.
+    /// Looks up which services take the packets of the PID of this one, where it was told of it that all do, or of no PID.
     #[inline(always)]
-    pub(crate) fn look_up(&mut self, packet: &Packet)
+    pub(crate) fn look_up(&mut self, takers: u8, packet: &Packet)
         ensures owners { (xs : List Airing) → AllStand self.old.services.items xs → HasOwnersOnAir self.old.owners xs
             → HasOwnersOnAir self.new.owners xs }
         ensures all { self.new.asks_all ≡ self.old.asks_all }
         ensures others { (self.new.services ≡ self.old.services) × (self.new.none ≡ self.old.none) × (self.new.counts ≡ self.old.counts) }
     {
-        if takes_all(false, self.owners.takers(packet)) {
+        if takes_all(false, takers) {
             tell(&mut self.owners, self.services.as_slice(), packet.pid());
         }
     }

@@ -8,6 +8,7 @@ mod owners;
 mod running;
 mod service;
 mod services;
+mod settling;
 mod sharing;
 mod watch;
 

@@ -13,7 +13,7 @@ ghost use Rattle.chain_engine.specs.Stages.{InjectsFor};
 ghost use Rattle.psi_section.specs.Assembling.{capped};
 ghost use Rattle.chain_engine.specs.Airing.{judged};
 ghost use Rattle.chain_engine.specs.Followed.{HasFollowed};
-ghost use Rattle.chain_services.specs.Serving.{GoesOnBy};
+ghost use Rattle.chain_engine.specs.Passing.{GoesOnBy};
 ghost use Rattle.on_air.specs.Stretches.{Entry, as_read};
 ghost use Rattle.on_air.specs.Marking.{Keeps, Becomes};
 ghost use Rattle.on_air.specs.AirRuns.{has_no};
@@ -98,6 +98,29 @@ impl Passed {
             is_unjudged,
             learns: self.learns || other.learns,
             has_left: self.has_left || other.has_left,
+        }
+    }
+}
+
+/// What a packet is that was settled.
+#[derive(Clone, Copy, Debug, PartialEq, Eq)]
+pub(crate) struct Settled {
+    /// A stretch begins with it.
+    pub(crate) is_anew: bool,
+    /// The number of the switched stream in which it goes on alone for the service that alone takes it; `None` where it does not, or that is open.
+    pub(crate) goes_on: Option<usize>,
+}
+
+impl Settled {
+    /// Of a packet of which it is open whether it goes on.
+    #[inline(always)]
+    pub(crate) fn of(is_anew: bool) -> Settled
+        ensures anew { result.is_anew ≡ is_anew }
+        ensures none { result.goes_on ≡ None }
+    {
+        Settled {
+            is_anew,
+            goes_on: None,
         }
     }
 }
@@ -309,6 +332,39 @@ impl AirService {
             return Ok(false);
         }
         self.settle_closely(next, library, out, watch)
+    }
+
+    /// Does what [`AirService::settle`] does, and tells in which stream the packet goes on alone.
+    ///
+    /// # Errors
+    ///
+    /// The sink's.
+    #[inline(always)]
+    pub(crate) fn settle_alone<K: PacketSink, A: ServicesWatch>(
+        &mut self,
+        next: Numbered<'_>,
+        library: &AdLibrary,
+        out: &mut K,
+        watch: &mut A,
+    ) -> Result<Settled, PutFault>
+        ensures leads { K.leads out.old out.new }
+        ensures stands { (a : Airing) → AirStandsFor self.old a
+            → OnOk result (IsSettled self.new next.entry.packet.now (next_of next.entry.packet.now a)) }
+        ensures out { (a : Airing) (t : ServiceTerms) (g : Gone) (start : Option (List ℕ)) (ps : List (List ℕ)) → AirStandsFor self.old a
+            → held library.now ≡ t.filed → HasGone self.old t g → K.holds out.old start ps
+            → OnOk result (HasGone self.new t (gone_settled t (begins_anew next.entry.packet.now a) g)
+            × K.holds out.new start (ps ++ put_settled t (begins_anew next.entry.packet.now a) g)) }
+        ensures anew { (a : Airing) → AirStandsFor self.old a → IfOk result (λ settled. settled.is_anew ≡ begins_anew next.entry.packet.now a) }
+        ensures below { IfOk result (λ settled. IfSome settled.goes_on (λ stream. stream < 8)) }
+        ensures alone { IfOk result (λ settled. IfSome settled.goes_on (λ stream. GoesOnBy self.new.service stream next.entry.packet.now)) }
+    {
+        match self.settle(next, library, out, watch) {
+            Ok(is_anew) => Ok(Settled {
+                is_anew,
+                goes_on: self.service.goes_on(next.packet),
+            }),
+            Err(fault) => Err(fault),
+        }
     }
 
     /// Does what [`AirService::settle`] does, for any packet.
@@ -536,6 +592,38 @@ impl AirService {
         }
     }
 
+    /// Passes the packet on that was settled, whatever it is there: what it sends goes out where the packet is on one of its PIDs, and is the packet
+    /// else. It stands by itself, since few packets go this way.
+    ///
+    /// # Errors
+    ///
+    /// The sink's.
+    #[inline(never)]
+    fn pass_closely<K: PacketSink>(
+        &mut self,
+        packet: &Packet,
+        library: &AdLibrary,
+        out: &mut K,
+    ) -> Result<Passed, PutFault>
+        ensures leads { K.leads out.old out.new }
+        ensures stands { (a : Airing) → IsSettled self.old packet.now a
+            → IfOk result (λ passed. AirStandsFor self.new a × IsPassed passed packet.now a) }
+        ensures out { (t : ServiceTerms) (g : Gone) (start : Option (List ℕ)) (ps : List (List ℕ)) → held library.now ≡ t.filed
+            → HasGone self.old t g → K.holds out.old start ps
+            → IfOk result (λ passed. HasGone self.new t (gone_on t (aired_as packet.now self.old.is_unjudged) g)
+            × K.holds out.new start (ps ++ put_own passed.is_own t (aired_as packet.now self.old.is_unjudged) g)) }
+        ensures left { IfOk result (λ passed. passed.has_left ≡ self.new.is_unjudged) }
+    {
+        let known = self.service.pid_count();
+        if self.service.owns(packet) {
+            return self.pass_and_tell(true, known, packet, library, out);
+        }
+        if !self.is_unjudged && self.service.overlooks(packet) {
+            return Ok(Passed::beside());
+        }
+        self.pass_and_tell(false, known, packet, library, &mut Nowhere)
+    }
+
     /// Passes the packet on that was settled: what it sends goes out where the packet is on one of its PIDs, and is the packet else.
     ///
     /// # Errors
@@ -560,14 +648,39 @@ impl AirService {
         if let Some(stream) = self.goes_on(packet) {
             return self.pass_alone(stream, packet, library, out);
         }
-        let known = self.service.pid_count();
-        if self.service.owns(packet) {
-            return self.pass_and_tell(true, known, packet, library, out);
+        self.pass_closely(packet, library, out)
+    }
+
+    /// Passes the packet on that was settled, as [`AirService::pass`] does, where it is known in which stream it goes on alone.
+    ///
+    /// # Errors
+    ///
+    /// The sink's.
+    #[inline(always)]
+    pub(crate) fn pass_known<K: PacketSink>(
+        &mut self,
+        goes_on: Option<usize>,
+        packet: &Packet,
+        library: &AdLibrary,
+        out: &mut K,
+    ) -> Result<Passed, PutFault>
+        requires { IfSome goes_on (λ stream. stream < 8) }
+        ensures leads { K.leads out.old out.new }
+        ensures stands { (a : Airing) → IsSettled self.old packet.now a → IfSome goes_on (λ stream. GoesOnBy self.old.service stream packet.now)
+            → IfOk result (λ passed. AirStandsFor self.new a × IsPassed passed packet.now a) }
+        ensures out { (t : ServiceTerms) (g : Gone) (start : Option (List ℕ)) (ps : List (List ℕ)) → held library.now ≡ t.filed
+            → HasGone self.old t g → IfSome goes_on (λ stream. GoesOnBy self.old.service stream packet.now) → K.holds out.old start ps
+            → IfOk result (λ passed. HasGone self.new t (gone_on t (aired_as packet.now self.old.is_unjudged) g)
+            × K.holds out.new start (ps ++ put_own passed.is_own t (aired_as packet.now self.old.is_unjudged) g)) }
+        ensures left { IfOk result (λ passed. passed.has_left ≡ self.new.is_unjudged) }
+    {
+        let Some(stream) = goes_on else {
+            return self.pass_closely(packet, library, out);
+        };
+        if self.is_unjudged {
+            return self.pass_closely(packet, library, out);
         }
-        if !self.is_unjudged && self.service.overlooks(packet) {
-            return Ok(Passed::beside());
-        }
-        self.pass_and_tell(false, known, packet, library, &mut Nowhere)
+        self.pass_alone(stream, packet, library, out)
     }
 
     /// Puts what is left of the advertisements that run, and tells what became of the events of all its stretches.

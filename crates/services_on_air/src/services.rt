@@ -1,7 +1,7 @@
 //! The services of a run on air, packet by packet.
 
-ghost use Rattle.std.specs.Prelude.{◌≡◌, ◌||◌, ◌++◌, ◌+◌, ℕ, if◌then◌else◌, List, ◌∷◌, [], map, length, true, false, Option, None, OnOk, IfOk, IfErr};
-ghost use Rattle.std.specs.List.{list_any};
+ghost use Rattle.std.specs.Prelude.{◌≡◌, ◌++◌, ◌+◌, ℕ, if◌then◌else◌, List, ◌∷◌, [], true, false, Option, None, ◌<◌};
+ghost use Rattle.std.specs.Prelude.{map, length, slice_index_or, OnOk, IfOk, IfErr, IfSome};
 ghost use Rattle.ts_packet.specs.Fields.{pid_of};
 ghost use Rattle.ad_library.specs.Library.{held};
 ghost use Rattle.scte104_codec.specs.declared.reply.Reply.{Reply};
@@ -13,18 +13,19 @@ ghost use Rattle.chain_services.specs.Serving.{FiledAs};
 ghost use Rattle.psi_section.specs.Assembling.{capped};
 ghost use Rattle.psi_tables.specs.declared.config.Config.{Config};
 ghost use Rattle.chain_services.specs.Refused.{services_refused, IsRefused};
-ghost use Rattle.services_on_air.specs.Airing.{Airing, begins, next_of, nexts, parted, begun_in};
+ghost use Rattle.services_on_air.specs.Airing.{Airing, begins, parted, begun_in};
 ghost use Rattle.services_on_air.specs.Standing.{AirStandsFor, IsSettled, IsPassed, AllStand, AllSettled, ArePassed};
-ghost use Rattle.services_on_air.specs.Standing.{DeskJudged, AirServicesStandFor, AreSettled, HavePassed, TellsOfAll};
-ghost use Rattle.services_on_air.specs.Owners.{HasOwnersOnAir, AllJudged, MayStay, MayAllStay, IsLeftOut, AreLeftOut};
-ghost use Rattle.services_on_air.specs.Histories.{Gone, HasGone, gone_on, gone_settled, begins_anew, put_own, put_settled, aired_as};
+ghost use Rattle.services_on_air.specs.Standing.{DeskJudged, AirServicesStandFor, AreSettled, StillTold, StillGoesOn, HavePassed, TellsOfAll};
+ghost use Rattle.services_on_air.specs.Owners.{HasOwnersOnAir, AllJudged, IsLeftOut, AreLeftOut, TakerGoesOn};
+ghost use Rattle.services_on_air.specs.Histories.{Gone, HasGone, gone_on, put_own, aired_as};
 ghost use Rattle.services_on_air.specs.Outputs.{lost_among};
-ghost use Rattle.services_on_air.specs.Serving.{AllGone, DeskGone, nothings_gone, gones_settled, puts_settled, gones_on, puts_on, puts_last};
+ghost use Rattle.services_on_air.specs.Serving.{AllGone, DeskGone, nothings_gone, gones_on, puts_on, puts_last};
 ghost use Rattle.services_on_air.specs.Serving.{AddsOnAir, AirServicesBegin, ServicesGone, ServicesSettled, ServicesHeard, ServicesEnded};
 ghost use Rattle.services_on_air.specs.Serving.{HearsAll, RunsSoFar, air_behind, air_ahead, air_to_end};
 
 use crate::desk::AirDesk;
 use crate::service::{AirService, Numbered, Passed};
+use crate::settling::settle_some;
 use crate::sharing::part_each;
 use crate::watch::ServicesWatch;
 use ad_library::AdLibrary;
@@ -70,186 +71,6 @@ fn add_services<M: Allocator>(
         Ok(()) => add_services(services, others),
         Err(_) => Err(OutOfMemory),
     }
-}
-
-/// Settles for a service what becomes of the next packet, unless that may stay: it is judged then, and no stretch begins with it. Whether one
-/// does.
-///
-/// # Errors
-///
-/// The sink's.
-#[inline(always)]
-fn settle_one<K: PacketSink, A: ServicesWatch>(
-    is_left_out: bool,
-    service: &mut AirService,
-    library: &AdLibrary,
-    next: Numbered<'_>,
-    out: &mut K,
-    watch: &mut A,
-) -> Result<bool, PutFault>
-    ensures leads { K.leads out.old out.new }
-    ensures stands { (a : Airing) → AirStandsFor service.old a
-        → (is_left_out ≡ true → MayStay service.old (pid_of next.entry.packet.now) a)
-        → OnOk result (IsSettled service.new next.entry.packet.now (next_of next.entry.packet.now a)) }
-    ensures anew { (a : Airing) → AirStandsFor service.old a
-        → (is_left_out ≡ true → MayStay service.old (pid_of next.entry.packet.now) a)
-        → IfOk result (λ is_anew. is_anew ≡ begins_anew next.entry.packet.now a) }
-    ensures left { (a : Airing) → AirStandsFor service.old a
-        → (is_left_out ≡ true → MayStay service.old (pid_of next.entry.packet.now) a) → is_left_out ≡ true
-        → IsLeftOut service.new (pid_of next.entry.packet.now) (next_of next.entry.packet.now a) }
-    ensures out { (a : Airing) (t : ServiceTerms) (g : Gone) (start : Option (List ℕ)) (ps : List (List ℕ)) → AirStandsFor service.old a
-        → (is_left_out ≡ true → MayStay service.old (pid_of next.entry.packet.now) a)
-        → held library.now ≡ t.filed → HasGone service.old t g → K.holds out.old start ps
-        → OnOk result (HasGone service.new t (gone_settled t (begins_anew next.entry.packet.now a) g)
-        × K.holds out.new start (ps ++ put_settled t (begins_anew next.entry.packet.now a) g)) }
-{
-    if is_left_out {
-        return Ok(false);
-    }
-    service.settle(next, library, out, watch)
-}
-
-/// One of them is so.
-#[inline(always)]
-fn either(one: bool, other: bool) -> bool
-    ensures { result ≡ (one || other) }
-{
-    one || other
-}
-
-/// Settles for each of these services what becomes of the next packet, before the messages that come before it are heard: for all, or for those
-/// that take it, whose bits are set. Whether a stretch of one begins with it.
-///
-/// # Errors
-///
-/// The sink's.
-fn settle_each<K: PacketSink, A: ServicesWatch>(
-    all: bool,
-    takers: u8,
-    services: &mut [AirService],
-    libraries: &[AdLibrary],
-    next: Numbered<'_>,
-    out: &mut K,
-    watch: &mut A,
-) -> Result<bool, PutFault>
-    ensures leads { K.leads out.old out.new }
-    ensures stands { (xs : List Airing) → AllStand services.old xs → length libraries.now ≡ length xs
-        → (all ≡ false → MayAllStay takers services.old (pid_of next.entry.packet.now) xs)
-        → OnOk result (AllSettled services.new next.entry.packet.now (nexts next.entry.packet.now xs)) }
-    ensures anew { (xs : List Airing) → AllStand services.old xs → length libraries.now ≡ length xs
-        → (all ≡ false → MayAllStay takers services.old (pid_of next.entry.packet.now) xs)
-        → IfOk result (λ is_anew. is_anew ≡ list_any (begins_anew next.entry.packet.now) xs) }
-    ensures left { (xs : List Airing) → AllStand services.old xs → length libraries.now ≡ length xs
-        → (all ≡ false → MayAllStay takers services.old (pid_of next.entry.packet.now) xs) → all ≡ false
-        → OnOk result (AreLeftOut takers services.new (pid_of next.entry.packet.now) (nexts next.entry.packet.now xs)) }
-    ensures out { (xs : List Airing) (ts : List ServiceTerms) (gs : List Gone) (start : Option (List ℕ)) (ps : List (List ℕ))
-        → AllStand services.old xs → (all ≡ false → MayAllStay takers services.old (pid_of next.entry.packet.now) xs)
-        → FiledAs libraries.now ts → AllGone services.old ts gs → K.holds out.old start ps
-        → OnOk result (AllGone services.new ts (gones_settled ts next.entry.packet.now xs gs)
-        × K.holds out.new start (ps ++ puts_settled ts next.entry.packet.now xs gs)) }
-{
-    if leaves_out_all(all, takers) {
-        return Ok(false);
-    }
-    let Some((service, others)) = services.split_first_mut() else {
-        return Ok(false);
-    };
-    let Some((library, libraries)) = libraries.split_first() else {
-        return Ok(false);
-    };
-    let one = match settle_one(leaves_out(all, takers), service, library, next, out, watch) {
-        Ok(one) => one,
-        Err(fault) => return Err(fault),
-    };
-    match settle_each(all, takers / 2, others, libraries, next, out, watch) {
-        Ok(more) => Ok(either(one, more)),
-        Err(fault) => Err(fault),
-    }
-}
-
-/// Settles for the first of these services, which alone takes it, what becomes of the next packet. It looks at no other one, and so calls itself
-/// not.
-///
-/// # Errors
-///
-/// The sink's.
-#[inline(never)]
-fn settle_first<K: PacketSink, A: ServicesWatch>(
-    services: &mut [AirService],
-    libraries: &[AdLibrary],
-    next: Numbered<'_>,
-    out: &mut K,
-    watch: &mut A,
-) -> Result<bool, PutFault>
-    ensures leads { K.leads out.old out.new }
-    ensures stands { (xs : List Airing) → AllStand services.old xs → length libraries.now ≡ length xs
-        → MayAllStay 1 services.old (pid_of next.entry.packet.now) xs
-        → OnOk result (AllSettled services.new next.entry.packet.now (nexts next.entry.packet.now xs)) }
-    ensures anew { (xs : List Airing) → AllStand services.old xs → length libraries.now ≡ length xs
-        → MayAllStay 1 services.old (pid_of next.entry.packet.now) xs
-        → IfOk result (λ is_anew. is_anew ≡ list_any (begins_anew next.entry.packet.now) xs) }
-    ensures left { (xs : List Airing) → AllStand services.old xs → length libraries.now ≡ length xs
-        → MayAllStay 1 services.old (pid_of next.entry.packet.now) xs
-        → OnOk result (AreLeftOut 1 services.new (pid_of next.entry.packet.now) (nexts next.entry.packet.now xs)) }
-    ensures out { (xs : List Airing) (ts : List ServiceTerms) (gs : List Gone) (start : Option (List ℕ)) (ps : List (List ℕ))
-        → AllStand services.old xs → MayAllStay 1 services.old (pid_of next.entry.packet.now) xs
-        → FiledAs libraries.now ts → AllGone services.old ts gs → K.holds out.old start ps
-        → OnOk result (AllGone services.new ts (gones_settled ts next.entry.packet.now xs gs)
-        × K.holds out.new start (ps ++ puts_settled ts next.entry.packet.now xs gs)) }
-{
-    let Some((service, _others)) = services.split_first_mut() else {
-        return Ok(false);
-    };
-    let Some((library, _behind)) = libraries.split_first() else {
-        return Ok(false);
-    };
-    service.settle(next, library, out, watch)
-}
-
-/// Does what [`settle_each`] does, and begins with the first of these services that takes the packet.
-///
-/// # Errors
-///
-/// The sink's.
-#[inline(always)]
-fn settle_some<K: PacketSink, A: ServicesWatch>(
-    all: bool,
-    takers: u8,
-    services: &mut [AirService],
-    libraries: &[AdLibrary],
-    next: Numbered<'_>,
-    out: &mut K,
-    watch: &mut A,
-) -> Result<bool, PutFault>
-    ensures leads { K.leads out.old out.new }
-    ensures stands { (xs : List Airing) → AllStand services.old xs → length libraries.now ≡ length xs
-        → (all ≡ false → MayAllStay takers services.old (pid_of next.entry.packet.now) xs)
-        → OnOk result (AllSettled services.new next.entry.packet.now (nexts next.entry.packet.now xs)) }
-    ensures anew { (xs : List Airing) → AllStand services.old xs → length libraries.now ≡ length xs
-        → (all ≡ false → MayAllStay takers services.old (pid_of next.entry.packet.now) xs)
-        → IfOk result (λ is_anew. is_anew ≡ list_any (begins_anew next.entry.packet.now) xs) }
-    ensures left { (xs : List Airing) → AllStand services.old xs → length libraries.now ≡ length xs
-        → (all ≡ false → MayAllStay takers services.old (pid_of next.entry.packet.now) xs) → all ≡ false
-        → OnOk result (AreLeftOut takers services.new (pid_of next.entry.packet.now) (nexts next.entry.packet.now xs)) }
-    ensures out { (xs : List Airing) (ts : List ServiceTerms) (gs : List Gone) (start : Option (List ℕ)) (ps : List (List ℕ))
-        → AllStand services.old xs → (all ≡ false → MayAllStay takers services.old (pid_of next.entry.packet.now) xs)
-        → FiledAs libraries.now ts → AllGone services.old ts gs → K.holds out.old start ps
-        → OnOk result (AllGone services.new ts (gones_settled ts next.entry.packet.now xs gs)
-        × K.holds out.new start (ps ++ puts_settled ts next.entry.packet.now xs gs)) }
-{
-    if leaves_out_all(all, takers) {
-        return Ok(false);
-    }
-    if all {
-        return settle_each(all, takers, services, libraries, next, out, watch);
-    }
-    let shift = shift_of(takers, services.len().min(libraries.len()));
-    let (_, services) = services.split_at_mut(shift.count);
-    let (_, libraries) = libraries.split_at(shift.count);
-    if shift.takers == 1 {
-        return settle_first(services, libraries, next, out, watch);
-    }
-    settle_each(false, shift.takers, services, libraries, next, out, watch)
 }
 
 /// Passes a packet on through a service, unless it is left out: it changes nothing of the service then.
@@ -335,22 +156,27 @@ fn pass_each<K: PacketSink>(
 /// # Errors
 ///
 /// The sink's.
-#[inline(never)]
+#[inline(always)]
 fn pass_first<K: PacketSink>(
+    goes_on: Option<usize>,
     services: &mut [AirService],
     libraries: &[AdLibrary],
     packet: &Packet,
     out: &mut K,
 ) -> Result<Passed, PutFault>
+    requires { IfSome goes_on (λ stream. stream < 8) }
     ensures leads { K.leads out.old out.new }
     ensures stands { (xs : List Airing) → AllSettled services.old packet.now xs → length libraries.now ≡ length xs
         → AreLeftOut 1 services.old (pid_of packet.now) xs
+        → IfSome goes_on (λ stream. TakerGoesOn 1 services.old stream packet.now)
         → IfOk result (λ passed. AllStand services.new xs × ArePassed passed packet.now xs) }
     ensures judged { (xs : List Airing) → AllSettled services.old packet.now xs → length libraries.now ≡ length xs
         → AreLeftOut 1 services.old (pid_of packet.now) xs
+        → IfSome goes_on (λ stream. TakerGoesOn 1 services.old stream packet.now)
         → IfOk result (λ passed. passed.has_left ≡ false → AllJudged services.new) }
     ensures out { (ys : List Airing) (ts : List ServiceTerms) (gs : List Gone) (start : Option (List ℕ)) (ps : List (List ℕ))
         → AllSettled services.old packet.now ys → AreLeftOut 1 services.old (pid_of packet.now) ys
+        → IfSome goes_on (λ stream. TakerGoesOn 1 services.old stream packet.now)
         → FiledAs libraries.now ts → AllGone services.old ts gs → K.holds out.old start ps
         → OnOk result (AllGone services.new ts (gones_on ts packet.now ys gs)
         × K.holds out.new start (ps ++ puts_on ts packet.now ys gs)) }
@@ -362,7 +188,7 @@ fn pass_first<K: PacketSink>(
     let Some((library, _behind)) = libraries.split_first() else {
         return Ok(Passed::beside());
     };
-    service.pass(packet, library, out)
+    service.pass_known(goes_on, packet, library, out)
 }
 
 /// Does what [`pass_each`] does, and begins with the first of these services that takes the packet.
@@ -374,20 +200,25 @@ fn pass_first<K: PacketSink>(
 fn pass_some<K: PacketSink>(
     all: bool,
     takers: u8,
+    goes_on: Option<usize>,
     services: &mut [AirService],
     libraries: &[AdLibrary],
     packet: &Packet,
     out: &mut K,
 ) -> Result<Passed, PutFault>
+    requires { IfSome goes_on (λ stream. stream < 8) }
     ensures leads { K.leads out.old out.new }
     ensures stands { (xs : List Airing) → AllSettled services.old packet.now xs → length libraries.now ≡ length xs
         → (all ≡ false → AreLeftOut takers services.old (pid_of packet.now) xs)
+        → (all ≡ false → IfSome goes_on (λ stream. TakerGoesOn takers services.old stream packet.now))
         → IfOk result (λ passed. AllStand services.new xs × ArePassed passed packet.now xs) }
     ensures judged { (xs : List Airing) → AllSettled services.old packet.now xs → length libraries.now ≡ length xs
         → (all ≡ false → AreLeftOut takers services.old (pid_of packet.now) xs)
+        → (all ≡ false → IfSome goes_on (λ stream. TakerGoesOn takers services.old stream packet.now))
         → IfOk result (λ passed. passed.has_left ≡ false → AllJudged services.new) }
     ensures out { (ys : List Airing) (ts : List ServiceTerms) (gs : List Gone) (start : Option (List ℕ)) (ps : List (List ℕ))
         → AllSettled services.old packet.now ys → (all ≡ false → AreLeftOut takers services.old (pid_of packet.now) ys)
+        → (all ≡ false → IfSome goes_on (λ stream. TakerGoesOn takers services.old stream packet.now))
         → FiledAs libraries.now ts → AllGone services.old ts gs → K.holds out.old start ps
         → OnOk result (AllGone services.new ts (gones_on ts packet.now ys gs)
         × K.holds out.new start (ps ++ puts_on ts packet.now ys gs)) }
@@ -399,11 +230,14 @@ fn pass_some<K: PacketSink>(
     if all {
         return pass_each(all, takers, services, libraries, packet, out);
     }
+    if takers == 1 {
+        return pass_first(goes_on, services, libraries, packet, out);
+    }
     let shift = shift_of(takers, services.len().min(libraries.len()));
     let (_, services) = services.split_at_mut(shift.count);
     let (_, libraries) = libraries.split_at(shift.count);
     if shift.takers == 1 {
-        return pass_first(services, libraries, packet, out);
+        return pass_first(goes_on, services, libraries, packet, out);
     }
     pass_each(false, shift.takers, services, libraries, packet, out)
 }
@@ -549,7 +383,7 @@ impl<M: Allocator + Copy> AirServices<M> {
 }
 
 impl<M: Allocator> AirServices<M> {
-    /// Settles for each service what becomes of the next packet.
+    /// Settles for each service what becomes of the next packet, which these take. Where one alone takes it, in which stream it goes on alone there.
     ///
     /// # Errors
     ///
@@ -557,12 +391,18 @@ impl<M: Allocator> AirServices<M> {
     #[inline(always)]
     fn settle<K: PacketSink, A: ServicesWatch>(
         &mut self,
+        takers: u8,
         next: Numbered<'_>,
         libraries: &[AdLibrary],
         out: &mut K,
         watch: &mut A,
-    ) -> Result<(), PutFault>
+    ) -> Result<Option<usize>, PutFault>
+        requires pid { pid_of next.packet.now < 8192 }
+        requires takers { takers ≡ slice_index_or self.old.desk.owners (pid_of next.packet.now) 0 }
         ensures leads { K.leads out.old out.new }
+        ensures told { OnOk result (StillTold self.new.desk takers next.entry.packet.now) }
+        ensures below { IfOk result (λ goes_on. IfSome goes_on (λ stream. stream < 8)) }
+        ensures alone { IfOk result (λ goes_on. StillGoesOn self.new.desk takers goes_on next.entry.packet.now) }
         ensures stands { (cs : List Config) (past : List (List ℕ)) → AirServicesStandFor self.old cs past → length libraries.now ≡ length cs
             → OnOk result (AreSettled self.new cs next.entry.packet.now past) }
         ensures out { (ts : List ServiceTerms) (past before : List (List ℕ)) (takes : List Take) (rs : List Reply) (start : Option (List ℕ))
@@ -572,13 +412,12 @@ impl<M: Allocator> AirServices<M> {
             × K.holds out.new start (before ++ air_ahead ts next.entry.packet.now past (steps_of (length rs) takes past))) }
         ensures talk { self.new.talk ≡ self.old.talk }
     {
-        let takers = self.desk.owners.takers(next.packet);
         let all = takes_all(self.desk.asks_all, takers);
         let services = self.desk.services.as_mut_slice();
         match settle_some(all, takers, services, libraries, next, out, watch) {
-            Ok(is_anew) => {
-                self.desk.settled(is_anew);
-                Ok(())
+            Ok(settled) => {
+                self.desk.settled(settled.is_anew);
+                Ok(settled.goes_on)
             }
             Err(fault) => Err(fault),
         }
@@ -594,11 +433,14 @@ impl<M: Allocator> AirServices<M> {
             → Exchanged U.exchanges U.failures first automation.old self.old.talk.end takes rs
             → HearsAll self.new ts p past (air_ahead ts p past (steps_of (length rs) takes past))
             (Exchanged U.exchanges U.failures first automation.new) }
+        ensures quiet { (cs : List Config) (p : List ℕ) (past : List (List ℕ)) → AreSettled self.old cs p past
+            → self.new.desk.asks_all ≡ false → self.new.desk ≡ self.old.desk }
     {
         self.talk.listen(&mut self.desk, automation);
     }
 
-    /// Passes the packet on that is settled, through each service; where it is of none it goes out.
+    /// Passes the packet on that is settled, through each service; where it is of none it goes out. These take it, and where one alone does it goes
+    /// on alone there in this stream, where that is known, unless all are to be shown it.
     ///
     /// # Errors
     ///
@@ -606,25 +448,29 @@ impl<M: Allocator> AirServices<M> {
     #[inline(always)]
     fn pass_settled<K: PacketSink>(
         &mut self,
+        takers: u8,
+        goes_on: Option<usize>,
         packet: &Packet,
         libraries: &[AdLibrary],
         out: &mut K,
     ) -> Result<Passed, PutFault>
+        requires { IfSome goes_on (λ stream. stream < 8) }
         ensures leads { K.leads out.old out.new }
         ensures stands { (cs : List Config) (past : List (List ℕ)) → AreSettled self.old cs packet.now past → length libraries.now ≡ length cs
+            → StillTold self.old.desk takers packet.now → StillGoesOn self.old.desk takers goes_on packet.now
             → IfOk result (HavePassed self.new cs packet.now past) }
         ensures out { (ts : List ServiceTerms) (past before : List (List ℕ)) (takes : List Take) (rs : List Reply) (start : Option (List ℕ))
             → AreSettled self.old (configs_of ts) packet.now past → FiledAs libraries.now ts
             → ServicesHeard self.old ts packet.now past takes rs
+            → StillTold self.old.desk takers packet.now → StillGoesOn self.old.desk takers goes_on packet.now
             → K.holds out.old start (before ++ air_ahead ts packet.now past (steps_before (length rs) takes past))
             → OnOk result (ServicesGone self.new ts (packet.now ∷ past) takes rs
             × K.holds out.new start (before ++ air_behind ts (packet.now ∷ past) takes rs)) }
         ensures talk { self.new.talk ≡ self.old.talk }
     {
-        let takers = self.desk.owners.takers(packet);
         let all = takes_all(self.desk.asks_all, takers);
         let services = self.desk.services.as_mut_slice();
-        let passed = match pass_some(all, takers, services, libraries, packet, out) {
+        let passed = match pass_some(all, takers, goes_on, services, libraries, packet, out) {
             Ok(passed) => passed,
             Err(fault) => return Err(fault),
         };
@@ -639,9 +485,15 @@ impl<M: Allocator> AirServices<M> {
     }
 
     /// Where with the packet that came last more PIDs are known, ends the stretches of services that share one, and forgets which services take the
-    /// packets of each PID. Where none are, looks that up for its PID.
+    /// packets of each PID. Where none are, looks that up for its PID, if it was told of that that all take its packets.
     #[inline(always)]
-    fn part<A: ServicesWatch>(&mut self, learns: bool, last: Numbered<'_>, watch: &mut A)
+    fn part<A: ServicesWatch>(
+        &mut self,
+        learns: bool,
+        takers: u8,
+        last: Numbered<'_>,
+        watch: &mut A,
+    )
         ensures all { (xs : List Airing) → AllStand self.old.desk.services.items xs
             → AllStand self.new.desk.services.items (if learns then parted xs else xs) }
         ensures others { (self.new.talk ≡ self.old.talk) × (self.new.packets ≡ self.old.packets) × (self.new.unjudged ≡ self.old.unjudged) }
@@ -656,7 +508,7 @@ impl<M: Allocator> AirServices<M> {
             self.desk.forget();
             return;
         }
-        self.desk.look_up(last.packet);
+        self.desk.look_up(takers, last.packet);
     }
 
     /// Counts the packet that came last.
@@ -700,16 +552,17 @@ impl<M: Allocator> AirServices<M> {
             packet,
             number: self.packets,
         };
-        match self.settle(next, libraries, out, watch) {
-            Ok(()) => {}
+        let takers = self.desk.owners.takers(packet);
+        let goes_on = match self.settle(takers, next, libraries, out, watch) {
+            Ok(goes_on) => goes_on,
             Err(fault) => return Err(fault),
-        }
+        };
         self.hear(automation);
-        match self.pass_settled(packet, libraries, out) {
+        match self.pass_settled(takers, goes_on, packet, libraries, out) {
             Ok(passed) => {
                 show_each(self.desk.services.as_slice(), libraries, packet, watch);
                 self.count(passed.is_unjudged, watch);
-                self.part(passed.learns, next, watch);
+                self.part(passed.learns, takers, next, watch);
                 Ok(())
             }
             Err(fault) => Err(fault),

@@ -1,11 +1,12 @@
 //! The switch.
 
-ghost use Rattle.std.specs.Prelude.{◌≡◌, ◌<◌, ◌++◌, ◌∷◌, [], ℕ, List, slice_index_or, Option, None, Err, OnOk, IfOk, IfErr, true};
+ghost use Rattle.std.specs.Prelude.{◌≡◌, ◌<◌, ◌++◌, ◌∷◌, [], ℕ, List, slice_index_or, Option, None, Some, Err, OnOk, IfOk, IfErr, IfSome, false, true};
 ghost use Rattle.ts_packet.specs.Fields.{in_error, renumbered};
 ghost use Rattle.ts_packet.specs.Numbering.{Step as NumberStep, Kept, Counts, moved};
 ghost use Rattle.ts_packet.specs.Sinks.{Blamed};
 ghost use Rattle.ts_packet.specs.Transfers.{WentWell};
 ghost use Rattle.program_follower.specs.Faults.{network_fault};
+ghost use Rattle.program_follower.specs.Following.{IsMoreOf};
 ghost use Rattle.program_follower.specs.Purposes.{reading_cues};
 ghost use Rattle.program_follower.specs.declared.purpose.Purpose.{Purpose as FollowedFor};
 ghost use Rattle.outgoing_packets.specs.Faults.{FeedBlamed, KeepsSink, is_err_or};
@@ -156,6 +157,26 @@ impl Switch {
                 self.is_spent = true;
                 Err(fault)
             }
+        }
+    }
+
+    /// The number of the switched stream in which the next packet of the network goes on with what came before it, in the order of the map: it is
+    /// neither marked in error nor scrambled, and has a payload and no start bit. `None` where it is no such packet, and once a fault was answered.
+    /// It is not taken.
+    #[inline(always)]
+    pub fn goes_on(&self, packet: &Packet) -> Option<usize>
+        ensures below { IfSome result (λ stream. stream < 8) }
+        ensures goes_on { (c : FollowedFor) (past : List (List ℕ)) → SwitchFollows self.now c past →
+            IfSome result (λ stream. IsMoreOf c stream packet.now past) }
+        ensures told { (c : FollowedFor) (past : List (List ℕ)) → SwitchFollows self.now c past → self.now.is_spent ≡ false →
+            (stream : ℕ) → IsMoreOf c stream packet.now past → result ≡ Some stream }
+    {
+        if self.is_spent {
+            return None;
+        }
+        match self.follower.goes_on(packet) {
+            Some(stream) => Some(stream),
+            None => None,
         }
     }
 

@@ -1,16 +1,21 @@
 //! What goes out for a packet, by what it is of.
 
-ghost use Rattle.std.specs.Prelude.{◌≡◌, ◌∷◌, ℕ, List, None, OnOk, IfErr};
+ghost use Rattle.std.specs.Prelude.{◌≡◌, ◌<◌, ◌∷◌, ◌++◌, ℕ, List, Option, None, OnOk, IfErr};
 ghost use Rattle.ts_packet.specs.Sinks.{Blamed};
 ghost use Rattle.ts_packet.specs.Transfers.{WentWell};
 ghost use Rattle.program_follower.specs.Faults.{network_fault};
+ghost use Rattle.program_follower.specs.Following.{IsMoreOf};
 ghost use Rattle.program_follower.specs.Purposes.{reading_cues};
 ghost use Rattle.program_follower.specs.declared.purpose.Purpose.{Purpose as FollowedFor};
-ghost use Rattle.outgoing_packets.specs.Faults.{FeedBlamed, KeepsSink};
+ghost use Rattle.psi_tables.specs.declared.config.Config.{Config};
+ghost use Rattle.outgoing_packets.specs.Faults.{FeedBlamed, KeepsSink, is_err_or};
 ghost use Rattle.ad_library.specs.Library.{held};
+ghost use Rattle.splice_plans.specs.Adverts.{setting_of};
+ghost use Rattle.splice_plans.specs.Switching.{switched_at_packet};
+ghost use Rattle.splice_plans.specs.Stepping.{Journey, puts_next};
 ghost use Rattle.splice_playing.specs.Courses.{CountsTurns};
 ghost use Rattle.splice_playing.specs.Puts.{PutsAll, PutsFront};
-ghost use Rattle.splice_switch.specs.Standing.{SwitchFollows, IsFollowedAs, IsStart};
+ghost use Rattle.splice_switch.specs.Standing.{SwitchStandsAt, SwitchStandsFor, SwitchFollows, FeedFails, GoesOnAt, IsFollowedAs, IsStart};
 ghost use Rattle.splice_switch.specs.Takes.{OfJourney, OfNextAt, FailsToTakeAt, ComesFurther, AtFollowed, OfFollowedPuts};
 
 use super::Switch;
@@ -46,8 +51,7 @@ impl Switch {
         ensures spent { self.new.is_spent ≡ self.old.is_spent }
     {
         if let Some(stream) = self.follower.goes_on(packet) {
-            self.follower.go_on(stream, packet);
-            return match self.put_of_stream(stream, &StartPacket::NoStart, packet, library, sink) {
+            return match self.put_more(stream, packet, library, sink) {
                 Ok(()) => Ok(()),
                 Err(fault) => Err(FeedFault::Sink(fault)),
             };
@@ -58,6 +62,82 @@ impl Switch {
                 Err(fault) => Err(FeedFault::Sink(fault)),
             },
             Err(fault) => Err(FeedFault::Network(fault)),
+        }
+    }
+
+    /// Takes the next packet of the network as [`Switch::feed_with_same`] does, which goes on in the stream of this number: no unit of an
+    /// advertisement goes out before it.
+    ///
+    /// # Errors
+    ///
+    /// `Sink` where the sink failed: it has a front of what the packet puts.
+    #[inline(always)]
+    pub fn go_on<S: PacketSink>(
+        &mut self,
+        stream: usize,
+        packet: &Packet,
+        library: &AdLibrary,
+        sink: &mut S,
+    ) -> Result<(), FeedFault>
+        requires { stream < 8 }
+        ensures leads { S.leads sink.old sink.new }
+        ensures ok { (start : Option (List ℕ)) (ps : List (List ℕ)) (c : Config) (past : List (List ℕ)) → S.holds sink.old start ps →
+            SwitchStandsFor self.old c (held library.now) past → IsMoreOf (reading_cues c) stream packet.now past →
+            OnOk result (S.holds sink.new start (ps ++ switched_at_packet (setting_of c (held library.now)) packet.now past)) }
+        ensures stands { (c : Config) (past : List (List ℕ)) → SwitchStandsFor self.old c (held library.now) past →
+            IsMoreOf (reading_cues c) stream packet.now past →
+            OnOk result (SwitchStandsFor self.new c (held library.now) (packet.now ∷ past)) }
+        ensures err { (start : Option (List ℕ)) (ps : List (List ℕ)) (c : Config) (past : List (List ℕ)) → S.holds sink.old start ps →
+            SwitchStandsFor self.old c (held library.now) past → IsMoreOf (reading_cues c) stream packet.now past →
+            IfErr result (λ f. FeedFails f c (held library.now) packet.now past (λ put q x. S.fails sink.new start (ps ++ put) q x)) }
+        ensures puts { (start : Option (List ℕ)) (ps : List (List ℕ)) (c : Config) (x : Journey) → S.holds sink.old start ps →
+            SwitchStandsAt self.old c (held library.now) x → IsMoreOf (reading_cues c) stream packet.now x.read →
+            OnOk result (S.holds sink.new start (ps ++ puts_next (setting_of c (held library.now)) x packet.now)) }
+        ensures goes_on { (c : Config) (x : Journey) → SwitchStandsAt self.old c (held library.now) x →
+            IsMoreOf (reading_cues c) stream packet.now x.read →
+            ComesFurther self.new (held library.now) packet.now result c x }
+        ensures well { OnOk result (WentWell (S.counts sink.old) (S.counts sink.new)) }
+        ensures blamed { IfErr result (λ f. FeedBlamed f (S.counts sink.old) (S.counts sink.new) (S.is_full sink.new)) }
+        ensures spent { self.new.is_spent ≡ is_err_or result self.old.is_spent }
+    {
+        match self.put_more(stream, packet, library, sink) {
+            Ok(()) => Ok(()),
+            Err(fault) => {
+                self.is_spent = true;
+                Err(FeedFault::Sink(fault))
+            }
+        }
+    }
+
+    /// Takes a packet that goes on in the stream of this number.
+    #[inline(always)]
+    pub(super) fn put_more<S: PacketSink>(
+        &mut self,
+        stream: usize,
+        packet: &Packet,
+        library: &AdLibrary,
+        sink: &mut S,
+    ) -> Result<(), PutFault>
+        requires { stream < 8 }
+        ensures leads { S.leads sink.old sink.new }
+        ensures ok { OfFollowedPuts (GoesOnAt self.old stream) (held library.now) packet.now S.PacketSink sink.old
+            (PutsAll S.PacketSink sink.new result) }
+        ensures stands { AtFollowed (GoesOnAt self.old stream) (held library.now) packet.now
+            (ComesFurther self.new (held library.now) packet.now result) }
+        ensures turns { AtFollowed (GoesOnAt self.old stream) (held library.now) packet.now
+            (λ c x. OnOk result (CountsTurns self.old.playing self.new.playing)) }
+        ensures follows { (c : FollowedFor) (past : List (List ℕ)) → SwitchFollows self.old c past → IsMoreOf c stream packet.now past →
+            OnOk result (SwitchFollows self.new c (packet.now ∷ past)) }
+        ensures err { OfFollowedPuts (GoesOnAt self.old stream) (held library.now) packet.now S.PacketSink sink.old
+            (PutsFront S.PacketSink sink.new result) }
+        ensures well { OnOk result (WentWell (S.counts sink.old) (S.counts sink.new)) }
+        ensures blamed { IfErr result (λ f. Blamed f (S.counts sink.old) (S.counts sink.new) (S.is_full sink.new)) }
+        ensures spent { self.new.is_spent ≡ self.old.is_spent }
+    {
+        self.follower.go_on(stream, packet);
+        match self.put_of_stream(stream, &StartPacket::NoStart, packet, library, sink) {
+            Ok(()) => Ok(()),
+            Err(fault) => Err(fault),
         }
     }
 

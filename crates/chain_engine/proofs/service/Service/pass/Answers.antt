@@ -23,12 +23,3 @@ returns-in-Err-clause-err g c = λ d steps start ps stands is_held.
       all = by.alone;
       fault = subst (λ l. g.K.PacketSink.fails c.put.new.self start l c.args.packet.now c.in-Err.fault) (sym (append-nil ps)) (c.in-Err.ensures.err start ps is_held);
     }
-
-pub returns-in-Some-clause-ok : goal.returns-in-Some-clause-ok
-returns-in-Some-clause-ok g c = λ d steps start ps stands is_held. c.go_on.ensures.ok d steps start ps (c.in-Some.ensures.alone d steps stands.injector) stands is_held
-
-pub returns-in-Some-clause-airs : goal.returns-in-Some-clause-airs
-returns-in-Some-clause-airs g c = λ d steps fed start ps h is_held. c.go_on.ensures.airs d steps fed start ps (c.in-Some.ensures.alone d steps h.injector) h is_held
-
-pub returns-in-Some-clause-err : goal.returns-in-Some-clause-err
-returns-in-Some-clause-err g c = λ d steps start ps stands is_held. c.go_on.ensures.err d steps start ps (c.in-Some.ensures.alone d steps stands.injector) stands is_held

@@ -1,4 +1,4 @@
-use Rattle.std.proofs.Common.{◌∷◌, ap, subst, ◌∙◌}
+use Rattle.std.proofs.Common.{◌∷◌, ◌≤◌, sym, ap, subst, ◌∙◌}
 use Rattle.std.specs.Prelude.{slice_index_or}
 use Rattle.program_follower.specs.Program.{program_of, behind_head, pids_of}
 use Rattle.program_follower.specs.Faults.{as_network}
@@ -6,6 +6,7 @@ use Rattle.program_follower.specs.Standing.{lent_program}
 use Rattle.program_follower.specs.Streaming.{StartsRead}
 use Rattle.program_follower.specs.PidUses.{IsTablePid, HasPlacesElsewhere}
 use Rattle.program_follower.proofs.FollowLemmas.{streams_next, goes_to}
+use Rattle.program_follower.proofs.UseLemmas.{not_before}
 use Rattle.program_follower.proofs.start_follower.StartFollower.feed_tables.Goals as goal
 
 pub returns-in-Ok-follow_begins-clause-stands : goal.returns-in-Ok-follow_begins-clause-stands
@@ -22,6 +23,8 @@ returns-in-Ok-follow_begins-clause-stands c = λ k past h.
         pat = c.follow_begins.ensures.kept 0 (c.add_table.ensures.kept 0 h.uses.pat);
         cue = c.follow_begins.ensures.kept _ (c.add_table.ensures.kept _ h.uses.cue);
         map = c.follow_begins.ensures.kept _ (subst (λ n. IsTablePid (slice_index_or c.add_table.new.self n 0)) (c.map_pid.ensures k (p ∷ past) tables) c.add_table.ensures.here);
+        rest = λ pid within pat cue map. c.follow_begins.ensures.rest pid (subst (λ n. n ≤ 8) (sym (c.add_table.ensures.others pid (λ e. map (e ∙ c.map_pid.ensures k (p ∷ past) tables))))
+            (h.uses.rest pid within pat cue (not_before w p past pid pat map)));
         places = subst (λ r. HasPlacesElsewhere c.follow_begins.new.uses (pids_of r)) known
             (c.follow_begins.ensures.places (program_of w past) (behind_head w past) goes h.streams (c.add_table.ensures.places (pids_of (program_of w past)) h.uses.places));
       };

@@ -5,11 +5,12 @@ use Rattle.program_follower.specs.declared.starts.StartPacket.TheVariants.{NoSta
 use Rattle.program_follower.specs.Streaming.{StartsRead, is_more}
 use Rattle.program_follower.specs.Following.{Since}
 use Rattle.program_follower.proofs.ElsewhereLemmas.{fault_elsewhere}
-use Rattle.program_follower.proofs.GoOnLemmas.{streams-listed, more-sound, more-begins-none}
+use Rattle.program_follower.proofs.GoOnLemmas.{streams-listed, more-good, more-sound, more-begins-none, no-table, no-other}
 use Rattle.program_follower.proofs.PlaceLemmas.{placed}
 use Rattle.program_follower.proofs.StillLemmas.{still_stream}
 use Rattle.program_follower.proofs.UseLemmas.{use_elsewhere, use_stream}
 use Rattle.program_follower.proofs.start_follower.StartFollower.goes_on.Goals as goal
+use Rattle.program_follower.proofs.start_follower.StartFollower.goes_on.Goals.{then-error-via-then-error, then-error-via-else-error+then-not-goes_on}
 
 pub returns-clause-goes_on : goal.returns-clause-goes_on
 returns-clause-goes_on c = λ k past h.
@@ -34,3 +35,19 @@ returns-clause-goes_on c = λ k past h.
       place = (of.0, (of.1, begins));
       high = still_stream k p past c.in-Stream.index NoStart (e.cue, e.map, (of.0, (of.1, begins))) (λ pid none. none);
     }
+
+pub returns-in-Table-clause-told : goal.returns-in-Table-clause-told
+returns-in-Table-clause-told c = λ k past h stream m.
+    absurd (no-table c.args.self.now.uses k c.args.packet.now past h.uses c.use_of.ensures.pid stream m c.in-Table.ensures.is)
+
+pub returns-in-Other-clause-told : goal.returns-in-Other-clause-told
+returns-in-Other-clause-told c = λ k past h stream m.
+    absurd (no-other c.args.self.now.uses k c.args.packet.now past h.uses c.use_of.ensures.pid stream m c.in-Other.ensures.is)
+
+pub returns-then-error-clause-told : goal.returns-then-error-clause-told
+returns-then-error-clause-told c = λ k past h stream m.
+    let good = more-good (pids_of (program_of k.program past)) c.args.packet.now stream m.here in
+    elim c.then-error.branch [
+      | then-error-via-then-error w ↦ absurd (let e = c.error.ensures in let y = w.if-error.true in cc)
+      | then-error-via-else-error+then-not-goes_on w ↦ absurd (let e = w.goes_on.ensures in let y = w.if-not-goes_on.true in let more = m.more in cc)
+    ]

@@ -3,7 +3,7 @@ use Rattle.services_on_air.specs.Airing.{nexts, airings}
 use Rattle.std.proofs.Common.{sym, subst}
 use Rattle.services_on_air.specs.Owners.{HasOwnersAhead}
 use Rattle.services_on_air.proofs.PassLemmas.{asked-all}
-use Rattle.services_on_air.proofs.OwnerLemmas.{owners-stay, heard-left}
+use Rattle.services_on_air.proofs.OwnerLemmas.{owners-stay, heard-left, none-judged}
 use Rattle.services_on_air.proofs.HeardLemmas.{heard}
 use Rattle.services_on_air.proofs.services.AirServices.hear.Goals as goal
 
@@ -26,3 +26,8 @@ pub returns-clause-heard : goal.returns-clause-heard
 returns-clause-heard g c = λ ts p past takes rs first apart h exchanged.
     heard g.U.Automation.exchanges g.met.U.Automation.exchanges_refl g.met.U.Automation.exchanges_trans g.U.Automation.failures first ts apart p past takes rs c.args.automation.now c.listen.new.automation c.args.self.now _
     h exchanged c.listen.ensures.talk c.listen.ensures.closed c.listen.ensures.failures
+
+pub returns-clause-quiet : goal.returns-clause-quiet
+returns-clause-quiet g c = λ cs p past h still.
+    let (more, rs, talks, replied) = c.listen.ensures.talk h.ts h.n h.k h.talks in
+    none-judged c.args.self.now.desk c.listen.new.judge _ rs replied.judged still

@@ -4,6 +4,7 @@ use Rattle.service_laws.specs.Services.{configs_of}
 use Rattle.chain_engine.specs.Runs.{Exchanged}
 use Rattle.chain_engine.specs.declared.talk.Talk.{Talk}
 use Rattle.services_on_air.specs.Serving.{DeskGone}
+use Rattle.services_on_air.specs.Standing.{StillTold, StillGoesOn}
 use Rattle.services_on_air.specs.declared.desk.AirDesk.{AirDesk}
 use Rattle.services_on_air.proofs.AllLemmas.{filed-long, stays-gone}
 use Rattle.services_on_air.proofs.services.AirServices.pass.Goals as goal
@@ -12,7 +13,10 @@ pub returns-in-Ok-pass_settled-clause-stands : goal.returns-in-Ok-pass_settled-c
 returns-in-Ok-pass_settled-clause-stands g c = λ cs past h many.
     let p = c.args.packet.now in
     let settled = c.in-Ok.ensures.stands cs past h many in
-    let passed = c.in-Ok-pass_settled.ensures.stands cs past (c.hear.ensures.stands cs p past settled) many in
+    let quiet = c.hear.ensures.quiet cs p past settled in
+    let told : StillTold c.hear.new.self.desk c.takers-takers.result p = λ still. subst (λ (d : AirDesk g.row.M.Denot). StillTold d c.takers-takers.result p) (sym (quiet still)) c.in-Ok.ensures.told still in
+    let on : StillGoesOn c.hear.new.self.desk c.takers-takers.result c.in-Ok.goes_on p = λ still. subst (λ (d : AirDesk g.row.M.Denot). StillGoesOn d c.takers-takers.result c.in-Ok.goes_on p) (sym (quiet still)) c.in-Ok.ensures.alone still in
+    let passed = c.in-Ok-pass_settled.ensures.stands cs past (c.hear.ensures.stands cs p past settled) many told on in
     let counted = c.count.ensures in
     let parted = c.part.ensures in
     stands-next c.pass_settled.new.self c.count.new.self c.part.new.self cs p past c.in-Ok-pass_settled.passed passed counted.packets counted.unjudged counted.others.0 counted.others.1
@@ -27,9 +31,13 @@ returns-in-Ok-pass_settled-clause-out g c = λ ts past before start first apart 
     let (settled, ahead) = c.in-Ok.ensures.out ts past before h.takes h.rs start stood filed h.gone h.out in
     let came = subst (λ (w : Talk g.row.M.Denot). x c.args.automation.now w.end h.takes h.rs) (sym c.settle.ensures.talk) h.exchanges in
     let heard = c.hear.ensures.heard ts p past h.takes h.rs first apart settled came in
-    let st = c.hear.ensures.stands cs p past (c.in-Ok.ensures.stands cs past stood many) in
+    let before_heard = c.in-Ok.ensures.stands cs past stood many in
+    let st = c.hear.ensures.stands cs p past before_heard in
+    let quiet = c.hear.ensures.quiet cs p past before_heard in
+    let told : StillTold c.hear.new.self.desk c.takers-takers.result p = λ still. subst (λ (d : AirDesk g.row.M.Denot). StillTold d c.takers-takers.result p) (sym (quiet still)) c.in-Ok.ensures.told still in
+    let on : StillGoesOn c.hear.new.self.desk c.takers-takers.result c.in-Ok.goes_on p = λ still. subst (λ (d : AirDesk g.row.M.Denot). StillGoesOn d c.takers-takers.result c.in-Ok.goes_on p) (sym (quiet still)) c.in-Ok.ensures.alone still in
     let here = subst (λ l. g.K.PacketSink.holds c.settle.new.out start (before ++ l)) (sym heard.same) ahead in
-    let (gone, out) = c.in-Ok-pass_settled.ensures.out ts past before heard.takes heard.rs start st filed heard.heard here in
+    let (gone, out) = c.in-Ok-pass_settled.ensures.out ts past before heard.takes heard.rs start st filed heard.heard told on here in
     let counted = c.count.ensures.others in
     let parted = c.part.ensures in
     let talk = parted.others.0 ∙ counted.0 in

@@ -1,7 +1,5 @@
 use Rattle.ad_library.specs.Library.{held}
 use Rattle.program_follower.specs.Purposes.{reading_cues}
-use Rattle.program_follower.specs.declared.start_follower.StartPlace.TheVariants.{Stream}
-use Rattle.program_follower.specs.declared.starts.StartPacket.TheVariants.{NoStart}
 use Rattle.splice_switch.specs.Standing.{IsFollowedAs}
 use Rattle.splice_switch.proofs.switch.Switch.take.Goals as goal
 
@@ -80,76 +78,16 @@ pub returns-in-Err-feed-clause-err : goal.returns-in-Err-feed-clause-err
 returns-in-Err-feed-clause-err g c = λ start ps cfg x h b. c.in-Err-feed.ensures.err (reading_cues cfg) x.read b.follower
 
 pub returns-in-Ok-clause-ok : goal.returns-in-Ok-clause-ok
-returns-in-Ok-clause-ok g c = λ start ps cfg x h b.
-    let p = c.args.packet.now in
-    let on = c.in-Some.ensures.goes_on (reading_cues cfg) x.read b.follower in
-    let fed : IsFollowedAs (record c.args.self.now { follower = c.go_on.new.self }) (Stream c.in-Some.stream NoStart) cfg (held c.args.library.now) p x =
-    record {
-      cue_pid = b.cue_pid;
-      follower = c.go_on.ensures.stands (reading_cues cfg) x.read b.follower on;
-      shows = c.go_on.ensures.shows (reading_cues cfg) x.read b.follower on;
-      clean = b.clean;
-      sound = on.sound;
-      place_is = (on.elsewhere.cue, on.elsewhere.map, on.place);
-      playing = b.playing;
-      numbers = record { passed = b.numbers.passed; put = b.numbers.put; go_on = b.numbers.go_on };
-      whole = b.whole;
-    } in
-    c.in-Ok.ensures.ok start ps cfg x h fed
+returns-in-Ok-clause-ok g c = λ start ps cfg x h b. c.in-Ok.ensures.ok start ps cfg x h (record { stands = b; more = c.in-Some.ensures.goes_on (reading_cues cfg) x.read b.follower })
 
 pub returns-in-Ok-clause-stands : goal.returns-in-Ok-clause-stands
-returns-in-Ok-clause-stands g c = λ cfg x b.
-    let p = c.args.packet.now in
-    let on = c.in-Some.ensures.goes_on (reading_cues cfg) x.read b.follower in
-    let fed : IsFollowedAs (record c.args.self.now { follower = c.go_on.new.self }) (Stream c.in-Some.stream NoStart) cfg (held c.args.library.now) p x =
-    record {
-      cue_pid = b.cue_pid;
-      follower = c.go_on.ensures.stands (reading_cues cfg) x.read b.follower on;
-      shows = c.go_on.ensures.shows (reading_cues cfg) x.read b.follower on;
-      clean = b.clean;
-      sound = on.sound;
-      place_is = (on.elsewhere.cue, on.elsewhere.map, on.place);
-      playing = b.playing;
-      numbers = record { passed = b.numbers.passed; put = b.numbers.put; go_on = b.numbers.go_on };
-      whole = b.whole;
-    } in
-    c.in-Ok.ensures.stands cfg x fed
+returns-in-Ok-clause-stands g c = λ cfg x b. c.in-Ok.ensures.stands cfg x (record { stands = b; more = c.in-Some.ensures.goes_on (reading_cues cfg) x.read b.follower })
 
 pub returns-in-Ok-clause-turns : goal.returns-in-Ok-clause-turns
-returns-in-Ok-clause-turns g c = λ cfg x b.
-    let p = c.args.packet.now in
-    let on = c.in-Some.ensures.goes_on (reading_cues cfg) x.read b.follower in
-    let fed : IsFollowedAs (record c.args.self.now { follower = c.go_on.new.self }) (Stream c.in-Some.stream NoStart) cfg (held c.args.library.now) p x =
-    record {
-      cue_pid = b.cue_pid;
-      follower = c.go_on.ensures.stands (reading_cues cfg) x.read b.follower on;
-      shows = c.go_on.ensures.shows (reading_cues cfg) x.read b.follower on;
-      clean = b.clean;
-      sound = on.sound;
-      place_is = (on.elsewhere.cue, on.elsewhere.map, on.place);
-      playing = b.playing;
-      numbers = record { passed = b.numbers.passed; put = b.numbers.put; go_on = b.numbers.go_on };
-      whole = b.whole;
-    } in
-    c.in-Ok.ensures.turns cfg x fed
+returns-in-Ok-clause-turns g c = λ cfg x b. c.in-Ok.ensures.turns cfg x (record { stands = b; more = c.in-Some.ensures.goes_on (reading_cues cfg) x.read b.follower })
 
 pub returns-in-Ok-clause-sound : goal.returns-in-Ok-clause-sound
 returns-in-Ok-clause-sound g c = λ cfg x b. (c.in-Some.ensures.goes_on (reading_cues cfg) x.read b.follower).sound
 
 pub returns-in-Err-clause-err : goal.returns-in-Err-clause-err
-returns-in-Err-clause-err g c = λ start ps cfg x h b.
-    let p = c.args.packet.now in
-    let on = c.in-Some.ensures.goes_on (reading_cues cfg) x.read b.follower in
-    let fed : IsFollowedAs (record c.args.self.now { follower = c.go_on.new.self }) (Stream c.in-Some.stream NoStart) cfg (held c.args.library.now) p x =
-    record {
-      cue_pid = b.cue_pid;
-      follower = c.go_on.ensures.stands (reading_cues cfg) x.read b.follower on;
-      shows = c.go_on.ensures.shows (reading_cues cfg) x.read b.follower on;
-      clean = b.clean;
-      sound = on.sound;
-      place_is = (on.elsewhere.cue, on.elsewhere.map, on.place);
-      playing = b.playing;
-      numbers = record { passed = b.numbers.passed; put = b.numbers.put; go_on = b.numbers.go_on };
-      whole = b.whole;
-    } in
-    c.in-Err.ensures.err start ps cfg x h fed
+returns-in-Err-clause-err g c = λ start ps cfg x h b. c.in-Err.ensures.err start ps cfg x h (record { stands = b; more = c.in-Some.ensures.goes_on (reading_cues cfg) x.read b.follower })

@@ -11,7 +11,7 @@ use Rattle.services_on_air.specs.Owners.{MayAllStay, AreLeftOut}
 use Rattle.services_on_air.proofs.TogetherLemmas.{gone-of, filed-of}
 use Rattle.services_on_air.proofs.OwnerLemmas.{stay-parts, left-so, any-more}
 use Rattle.services_on_air.proofs.StayLemmas.{all-stay, stay-gone}
-use Rattle.services_on_air.proofs.services.+settle_each.Goals as goal
+use Rattle.services_on_air.proofs.settling.+settle_each.Goals as goal
 
 pub returns-in-Ok-settle_each-clause-stands : goal.returns-in-Ok-settle_each-clause-stands
 returns-in-Ok-settle_each-clause-stands g t c = λ xs h many may.

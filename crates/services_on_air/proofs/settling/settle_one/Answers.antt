@@ -3,7 +3,7 @@ use Rattle.std.proofs.lemmas.List.{append-nil}
 use Rattle.services_on_air.specs.Histories.{begins_anew}
 use Rattle.services_on_air.proofs.BesideLemmas.{stays-same, stays-settled, left-out}
 use Rattle.services_on_air.proofs.GoneLemmas.{settled-same}
-use Rattle.services_on_air.proofs.services.settle_one.Goals as goal
+use Rattle.services_on_air.proofs.settling.settle_one.Goals as goal
 
 pub returns-then-is_left_out-clause-stands : goal.returns-then-is_left_out-clause-stands
 returns-then-is_left_out-clause-stands g c = λ a h stay.
