@@ -6,6 +6,7 @@ pub mod RunLemmas
 pub mod SpliceLemmas
 pub mod PassingLemmas
 pub mod UnfollowedLemmas
+pub mod MoreLemmas
 pub mod NestedLemmas
 pub mod ChainLemmas
 pub mod ProgressLemmas

@@ -10,7 +10,7 @@ ghost use Rattle.psi_tables.specs.declared.config.Config.{Config};
 ghost use Rattle.ad_library.specs.Advertisements.{Advertisement};
 ghost use Rattle.ad_library.specs.Library.{held};
 ghost use Rattle.injector.specs.Steps.{Step, Packet as PacketStep, cued, packets_in, turns_in};
-ghost use Rattle.injector.specs.Injecting.{CountsAre};
+ghost use Rattle.injector.specs.Injecting.{CountsAre, GoesOnAlone};
 ghost use Rattle.chain_engine.specs.Stages.{InjectsFor};
 ghost use Rattle.outgoing_packets.specs.Faults.{FeedBlamed};
 ghost use Rattle.splice_plans.specs.Adverts.{setting_of};
@@ -227,8 +227,9 @@ impl Service {
         ensures below { IfSome result (λ stream. stream < 8) }
         ensures goes_on { IfSome result (λ stream. GoesOnBy self.now stream packet.now) }
         ensures told { (c : Config) (filed : ℕ → Option Advertisement) (steps : List Step) → ServiceStandsFor self.now c filed steps
-            → (stream : ℕ) → GoesOnBy self.now stream packet.now → result ≡ Some stream }
+            → (stream : ℕ) → GoesOnAlone c stream packet.now steps → result ≡ Some stream }
     {
+        of_bytes(packet);
         let Some(stream) = self.injector.goes_on(packet) else {
             return None;
         };
@@ -256,15 +257,15 @@ impl Service {
     ) -> Result<(), FeedFault>
         requires { stream < 8 }
         ensures leads { K.leads out.old out.new }
-        ensures ok { (c : Config) (steps : List Step) (start : Option (List ℕ)) (ps : List (List ℕ)) → GoesOnBy self.old stream packet.now
+        ensures ok { (c : Config) (steps : List Step) (start : Option (List ℕ)) (ps : List (List ℕ)) → GoesOnAlone c stream packet.now steps
             → ServiceStandsFor self.old c (held library.now) steps → K.holds out.old start ps
             → OnOk result (ServiceStandsFor self.new c (held library.now) (PacketStep packet.now ∷ steps)
             × K.holds out.new start (ps ++ chain_at c (held library.now) packet.now steps)) }
         ensures airs { (c : Config) (steps : List Step) (fed : List Aired) (start : Option (List ℕ)) (ps : List (List ℕ))
-            → GoesOnBy self.old stream packet.now → ServiceAirs self.old c (held library.now) steps fed → K.holds out.old start ps
+            → GoesOnAlone c stream packet.now steps → ServiceAirs self.old c (held library.now) steps fed → K.holds out.old start ps
             → OnOk result (PassedOnAir self.new c (held library.now) (judged packet.now) steps fed
             (λ qs. K.holds out.new start (ps ++ qs))) }
-        ensures err { (c : Config) (steps : List Step) (start : Option (List ℕ)) (ps : List (List ℕ)) → GoesOnBy self.old stream packet.now
+        ensures err { (c : Config) (steps : List Step) (start : Option (List ℕ)) (ps : List (List ℕ)) → GoesOnAlone c stream packet.now steps
             → ServiceStandsFor self.old c (held library.now) steps → K.holds out.old start ps
             → IfErr result (λ f. PassFails f c (held library.now) packet.now steps (K.holds out.new start ps)
             (λ put q x. K.fails out.new start (ps ++ put) q x)) }
@@ -272,7 +273,7 @@ impl Service {
         ensures blamed { IfErr result (λ f. OutputBlamed (RunFault.Feed f)
             (K.counts out.old) (K.counts out.new) (K.is_full out.new)) }
         ensures config { self.new.config ≡ self.old.config }
-        ensures injector { (c : Config) (steps : List Step) → GoesOnBy self.old stream packet.now → InjectsFor c self.old steps
+        ensures injector { (c : Config) (steps : List Step) → GoesOnAlone c stream packet.now steps → InjectsFor c self.old steps
             → InjectsFor c self.new (PacketStep packet.now ∷ steps) }
     {
         of_bytes(packet);

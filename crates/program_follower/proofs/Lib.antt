@@ -11,6 +11,6 @@ mod UseLemmas
 pub mod PieceLemmas
 pub mod PidLemmas
 pub mod UnfollowedLemmas
-mod StillLemmas
-mod GoOnLemmas
+pub mod StillLemmas
+pub mod GoOnLemmas
 mod FaultlessMapLemmas

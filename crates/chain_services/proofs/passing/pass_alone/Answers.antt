@@ -13,7 +13,7 @@ returns-in-Ok-clause-ok g c = λ t steps start ps filed h by is_held.
     let alone = by.alone t.config h.taken h.stands.injector in
     let holds = g.K.PacketSink.holds c.go_on.new.out start in
     let stands = subst (λ v. ServiceStandsFor old t.config v h.taken) (sym filed) h.stands in
-    let (goes, out) = c.in-Ok.ensures.ok t.config h.taken start ps by stands is_held in
+    let (goes, out) = c.in-Ok.ensures.ok t.config h.taken start ps alone stands is_held in
     let goes' = subst (λ v. ServiceStandsFor c.go_on.new.self t.config v (PacketStep p ∷ h.taken)) filed goes in
     let out' = subst (λ v. holds (ps ++ chain_at t.config v p h.taken)) filed out in
     let owned = alone-owned old t c.args.stream p steps h alone in
@@ -32,6 +32,6 @@ returns-in-Err-clause-err g c = λ t steps start ps filed h by is_held.
     let holds = g.K.PacketSink.holds c.go_on.new.out start in
     let fails = g.K.PacketSink.fails c.go_on.new.out start in
     let stands = subst (λ v. ServiceStandsFor old t.config v h.taken) (sym filed) h.stands in
-    let failed = subst (λ v. PassFails c.in-Err.fault t.config v p h.taken (holds ps) (λ put q x. fails (ps ++ put) q x)) filed (c.in-Err.ensures.err t.config h.taken start ps by stands is_held) in
+    let failed = subst (λ v. PassFails c.in-Err.fault t.config v p h.taken (holds ps) (λ put q x. fails (ps ++ put) q x)) filed (c.in-Err.ensures.err t.config h.taken start ps alone stands is_held) in
     own_failed c.in-Err.fault t p steps (λ l. holds (ps ++ l)) (λ put q x. fails (ps ++ put) q x) (alone-owned old t c.args.stream p steps h alone)
     (failed_on old t p steps h (λ l. holds (ps ++ l)) (λ put q x. fails (ps ++ put) q x) c.in-Err.fault (holds ps) (λ o. subst holds (sym (append-nil ps)) o) failed)

@@ -17,7 +17,7 @@ returns-in-Ok-clause-stands g c = λ a h by.
     let steps = h.followed.steps in
     let alone = by.alone a.config steps h.followed.injector in
     let on = alone.goes_on in
-    let stands = stands-behind s _ p p a h (is-itself s p a h c.requires.judged) c.go_on.ensures.config refl refl refl refl (c.go_on.ensures.injector a.config steps by h.followed.injector) in (
+    let stands = stands-behind s _ p p a h (is-itself s p a h c.requires.judged) c.go_on.ensures.config refl refl refl refl (c.go_on.ensures.injector a.config steps alone h.followed.injector) in (
       stands,
       record {
         own = c.alone.ensures.own ∙ owns-is s p a h true (owned_off_map (Some a.config.program) p (packets_in steps) on.elsewhere.map (Some c.args.stream) on.here);
@@ -35,6 +35,6 @@ returns-in-Ok-clause-out g c = λ t gone start ps filed h by is_held.
     let is_out = (λ (l : List (List ℕ)). g.K.PacketSink.holds call.new.out start (ps ++ l)) in
     let alone = by.alone t.config gone.own h.airs.injector in
     let here = subst (λ w. ServiceAirs s.service t.config w gone.own gone.fed) (sym filed) h.airs in
-    let went = subst (λ w. PassedOnAir call.new.self t.config w (judged p) gone.own gone.fed is_out) filed (c.in-Ok.ensures.airs t.config gone.own gone.fed start ps by here is_held) in
+    let went = subst (λ w. PassedOnAir call.new.self t.config w (judged p) gone.own gone.fed is_out) filed (c.in-Ok.ensures.airs t.config gone.own gone.fed start ps alone here is_held) in
     let both = passed-so now t gone (judged p) is_out went (kept-elsewhere s.tail (writing_cues t.config) p (packets_in gone.own) alone.goes_on.elsewhere.map h.tail) h.counted h.lost in
     (both.0, subst (λ b. is_out (put_own b t (judged p) gone)) (sym c.alone.ensures.own) both.1)
