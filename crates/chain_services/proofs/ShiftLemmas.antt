@@ -1,9 +1,10 @@
 -- Services that take a packet, behind some that do not: these add nothing, and nothing changes for them.
-use Rattle.std.proofs.Common.{◌≡◌, ◌≤◌, ◌%◌, ◌/◌, ◌^◌, ℕ, zero, suc, length, List, [], ◌∷◌, ◌++◌, Bool, ◌||◌, refl, sym, ap, subst, ◌∙◌, arith}
+use Rattle.std.proofs.Common.{◌≡◌, ◌≤◌, ◌%◌, ◌/◌, ◌^◌, ℕ, zero, suc, length, take, drop, List, [], ◌∷◌, ◌++◌, Bool, ◌||◌, refl, sym, ap, subst, ◌∙◌, arith}
 use Rattle.std.specs.Prelude.{if◌then◌else◌, Result, Ok, Err, IfOk, IfErr}
 use Rattle.std.specs.Int.Count.{count_trailing_zeros, under}
 use Rattle.std.specs.Option.{option_or}
 use Rattle.std.proofs.Math.Nat.{div-div-eq-div-mul}
+use Rattle.std.proofs.lemmas.List.{take-append-drop}
 use Rattle.wire_fields.specs.Numbers.{AreBytes}
 use Rattle.ts_packet.specs.declared.sink.PutFault.{PutFault}
 use Rattle.psi_tables.specs.declared.network.FeedFault.{FeedFault}
@@ -36,6 +37,10 @@ shifted-by (suc k) (suc count) takers h =
     let u = under_set (takers % 2) (count_trailing_zeros k (takers / 2)) count h in
     let e : takers / 2 / 2 ^ count ≡ takers / 2 ^ suc count = div-div-eq-div-mul takers 2 (2 ^ count) ∙ ap (λ n. takers / n) (grind arith) in
     (u.0, subst (λ n. IsShifted count n (takers / 2)) e (shifted-by k count (takers / 2) u.1))
+
+-- a list in two parts
+pub whole-of : {A : Type 0} (n : ℕ) (l front back : List A) → front ≡ take n l → back ≡ drop n l → l ≡ front ++ back
+whole-of n l front back f b = sym (ap (λ k. k ++ back) f ∙ ap (λ k. take n l ++ k) b ∙ take-append-drop n l)
 
 -- what is so of the services behind a front of these
 pub record BehindFront {A : Type 0} (libraries : List (AdLibrary A)) (front back : List Service) (left : ℕ) (ts : List ServiceTerms) (p : List ℕ) (steps : List Step) : Type 0 where

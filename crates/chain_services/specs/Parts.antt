@@ -1,5 +1,5 @@
 -- What each service adds to the output for a packet.
-use Rattle.std.specs.Prelude.{◌≡◌, ℕ, ◌+◌, ◌<◌, ◌≤◌, length, ◌||◌, Bool, false, if◌then◌else◌, List, [], ◌∷◌, ◌++◌, Some}
+use Rattle.std.specs.Prelude.{◌≡◌, ℕ, ◌+◌, ◌<◌, ◌≤◌, length, ◌||◌, Bool, false, if◌then◌else◌, List, [], ◌∷◌, ◌++◌, drop, Some}
 use Rattle.ts_packet.specs.Fields.{on_one}
 use Rattle.ts_packet.specs.declared.sink.PutFault.{PutFault}
 use Rattle.psi_tables.specs.declared.network.FeedFault.{FeedFault}
@@ -9,7 +9,7 @@ use Rattle.program_follower.specs.Faults.{network_fault}
 use Rattle.program_follower.specs.Purposes.{writing_cues}
 use Rattle.outgoing_packets.specs.Numbers.{FrontFails}
 use Rattle.injector.specs.Steps.{Step, Packet, packets_in, cued}
-use Rattle.chain_engine.specs.Passing.{chain_at}
+use Rattle.chain_engine.specs.Passing.{chain_at, GoesOnBy}
 use Rattle.chain_engine.specs.declared.service.Service.{Service}
 use Rattle.service_laws.specs.Messages.{own_steps}
 use Rattle.service_laws.specs.Services.{ServiceTerms, configs_of, services_rest}
@@ -17,6 +17,7 @@ use Rattle.service_laws.specs.Faults.{services_fault}
 use Rattle.splice_plans.specs.Adverts.{setting_of}
 use Rattle.splice_plans.specs.Reporting.{ReportIs, report_of}
 use Rattle.splice_plans.specs.Switching.{rest_at}
+use Rattle.chain_services.specs.Owners.{IsShifted}
 use Rattle.chain_services.specs.Serving.{ServesAs, AllServe}
 use Rattle.chain_services.specs.declared.report.ServiceEvents.{ServiceEvents}
 
@@ -73,6 +74,16 @@ pub record PassedEach (is_own learns : Bool) (services : List Service) (ts : Lis
   pub still : learns ≡ false → AllKnowSame ts p (packets_in steps)
   pub serve : AllServe services ts (Packet p ∷ steps)
   pub out : is_out (parts_of ts p steps)
+
+-- the first of these services goes on alone with the packet, in the switched stream of this number
+abbrev pub FirstGoesOn : List Service → ℕ → List ℕ → Type 0
+FirstGoesOn [] stream p = ⊥
+FirstGoesOn (s ∷ services) stream p = GoesOnBy s stream p
+
+-- the one behind so many of them alone takes it, and goes on so
+pub record GoesOnBehind (takers count stream : ℕ) (services : List Service) (p : List ℕ) : Type 0 where
+  pub taker : IsShifted count 1 takers
+  pub goes_on : FirstGoesOn (drop count services) stream p
 
 -- a front of these packets is out
 pub record FrontIsOut (packets : List (List ℕ)) (is_out : List (List ℕ) → Type 0) : Type 0 where

@@ -21,7 +21,9 @@ mod sharing;
 pub use desk::{counted, index_of};
 pub use fault::ServiceFault;
 pub use nowhere::Nowhere;
-pub use owners::{Owners, Shift, leaves_out, leaves_out_all, shift_of, takes_all, with_taker};
+pub use owners::{
+    Alone, Owners, Shift, leaves_out, leaves_out_all, shift_of, takes_all, with_taker,
+};
 pub use refusal::{Refusal, run_fault_of};
 pub use report::{ServiceEvents, ServiceReport};
 pub use running::{ServicesStage, run_services};

@@ -108,6 +108,15 @@ pub fn leaves_out_all(all: bool, takers: u8) -> bool
     !all && takers == 0
 }
 
+/// Which service alone takes a packet, where the packet goes on alone for it.
+#[derive(Clone, Copy, Debug, PartialEq, Eq)]
+pub struct Alone {
+    /// So many services stand before that one.
+    pub count: usize,
+    /// The number of its switched stream in which the packet goes on.
+    pub stream: usize,
+}
+
 /// Where the first service stands that takes a packet.
 #[derive(Clone, Copy, Debug, PartialEq, Eq)]
 pub struct Shift {

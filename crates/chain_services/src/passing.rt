@@ -1,6 +1,6 @@
 //! One packet through all services.
 
-ghost use Rattle.std.specs.Prelude.{◌≡◌, ◌<◌, ◌||◌, ◌++◌, ◌∷◌, ℕ, List, Option, OnOk, IfOk, IfErr, true, false};
+ghost use Rattle.std.specs.Prelude.{◌≡◌, ◌<◌, ◌≤◌, ◌||◌, ◌++◌, ◌∷◌, ℕ, List, length, Option, OnOk, IfOk, IfErr, IfSome, true, false};
 ghost use Rattle.ts_packet.specs.Transfers.{WentWell};
 ghost use Rattle.injector.specs.Steps.{Step, Packet as PacketStep, packets_in};
 ghost use Rattle.ad_library.specs.Library.{held};
@@ -10,11 +10,11 @@ ghost use Rattle.service_laws.specs.Services.{ServiceTerms, configs_of, given_at
 ghost use Rattle.service_laws.specs.Faults.{share_a_pid};
 ghost use Rattle.chain_services.specs.Owners.{IsSkipped, AreSkipped};
 ghost use Rattle.chain_services.specs.Serving.{ServesAs, AllServe, DeskStandsFor, FiledAs, services_in};
-ghost use Rattle.chain_services.specs.Parts.{PassedOn, FailedOn, PassedOne, FailedOne, PassedEach, FailedEach, AllKnowSame, parts_of};
+ghost use Rattle.chain_services.specs.Parts.{PassedOn, FailedOn, PassedOne, FailedOne, PassedEach, FailedEach, FirstGoesOn, GoesOnBehind, AllKnowSame, parts_of};
 
 use crate::desk::Desk;
 use crate::nowhere::Nowhere;
-use crate::owners::{leaves_out, leaves_out_all, shift_of, takes_all};
+use crate::owners::{Alone, leaves_out, leaves_out_all, shift_of, takes_all};
 use ad_library::AdLibrary;
 use chain_engine::{RunFault, Service, of_bytes};
 use psi_tables::FeedFault;
@@ -85,13 +85,12 @@ fn pass_alone<K: PacketSink>(
     library: &AdLibrary,
     packet: &Packet,
     out: &mut K,
-) -> Result<Passed, FeedFault>
+) -> Result<(), FeedFault>
     requires { stream < 8 }
     ensures leads { K.leads out.old out.new }
     ensures ok { (t : ServiceTerms) (steps : List Step) (start : Option (List ℕ)) (ps : List (List ℕ))
         → held library.now ≡ t.filed → ServesAs service.old t steps → GoesOnBy service.old stream packet.now
-        → K.holds out.old start ps → IfOk result (λ passed. PassedOne passed.is_own passed.learns service.new t packet.now steps
-        (λ l. K.holds out.new start (ps ++ l))) }
+        → K.holds out.old start ps → OnOk result (PassedOne true false service.new t packet.now steps (λ l. K.holds out.new start (ps ++ l))) }
     ensures err { (t : ServiceTerms) (steps : List Step) (start : Option (List ℕ)) (ps : List (List ℕ))
         → held library.now ≡ t.filed → ServesAs service.old t steps → GoesOnBy service.old stream packet.now
         → K.holds out.old start ps → IfErr result (λ f. FailedOne f t packet.now steps (λ l. K.holds out.new start (ps ++ l))
@@ -101,10 +100,7 @@ fn pass_alone<K: PacketSink>(
         (K.counts out.old) (K.counts out.new) (K.is_full out.new)) }
 {
     match service.go_on(stream, packet, library, out) {
-        Ok(()) => Ok(Passed {
-            is_own: true,
-            learns: false,
-        }),
+        Ok(()) => Ok(()),
         Err(fault) => Err(fault),
     }
 }
@@ -195,9 +191,6 @@ fn pass_one<K: PacketSink>(
             is_own: false,
             learns: false,
         });
-    }
-    if let Some(stream) = service.goes_on(packet) {
-        return pass_alone(stream, service, library, packet, out);
     }
     pass_closely(service, library, packet, out)
 }
@@ -295,6 +288,46 @@ fn pass_first<K: PacketSink>(
     pass_one(false, service, library, packet, out)
 }
 
+/// Passes a packet on through the first of these services, which alone takes it, and for which it goes on alone in the stream of this number.
+///
+/// # Errors
+///
+/// As for [`pass_each`].
+#[inline(always)]
+fn go_on_first<K: PacketSink>(
+    stream: usize,
+    services: &mut [Service],
+    libraries: &[AdLibrary],
+    packet: &Packet,
+    out: &mut K,
+) -> Result<(), FeedFault>
+    requires { stream < 8 }
+    ensures leads { K.leads out.old out.new }
+    ensures ok { (ts : List ServiceTerms) (steps : List Step) (start : Option (List ℕ)) (ps : List (List ℕ))
+        → FiledAs libraries.now ts → AllServe services.old ts steps → AreSkipped 1 ts packet.now steps
+        → FirstGoesOn services.old stream packet.now → K.holds out.old start ps
+        → OnOk result (PassedEach true false services.new ts packet.now steps (λ l. K.holds out.new start (ps ++ l))) }
+    ensures err { (ts : List ServiceTerms) (steps : List Step) (start : Option (List ℕ)) (ps : List (List ℕ))
+        → FiledAs libraries.now ts → AllServe services.old ts steps → FirstGoesOn services.old stream packet.now → K.holds out.old start ps
+        → IfErr result (λ f. FailedEach f ts packet.now steps (parts_of ts packet.now steps)
+        (λ l. K.holds out.new start (ps ++ l)) (λ put q x. K.fails out.new start (ps ++ put) q x)) }
+    ensures well { OnOk result (WentWell (K.counts out.old) (K.counts out.new)) }
+    ensures blamed { IfErr result (λ f. OutputBlamed (RunFault.Feed f)
+        (K.counts out.old) (K.counts out.new) (K.is_full out.new)) }
+{
+    of_bytes(packet);
+    let Some((service, _others)) = services.split_first_mut() else {
+        return Err(FeedFault::Failed);
+    };
+    let Some((library, _behind)) = libraries.split_first() else {
+        return Err(FeedFault::Failed);
+    };
+    match pass_alone(stream, service, library, packet, out) {
+        Ok(()) => Ok(()),
+        Err(fault) => Err(fault),
+    }
+}
+
 /// Does what [`pass_each`] does, and begins with the first of these services that takes the packet.
 ///
 /// # Errors
@@ -344,6 +377,105 @@ fn pass_some<K: PacketSink>(
 }
 
 impl<M: Allocator> Desk<M> {
+    /// Which service alone takes the packet, where not all do, and the packet goes on alone for that one. `None` where it is no such packet. It is
+    /// not taken.
+    #[inline(always)]
+    fn goes_on(
+        &self,
+        all: bool,
+        takers: u8,
+        libraries: &[AdLibrary],
+        packet: &Packet,
+    ) -> Option<Alone>
+        ensures some { IfSome result (λ _. all ≡ false) }
+        ensures below { IfSome result (λ alone. alone.stream < 8) }
+        ensures services { IfSome result (λ alone. alone.count ≤ self.now.others.len) }
+        ensures libraries { IfSome result (λ alone. alone.count ≤ length libraries.now) }
+        ensures goes_on { IfSome result (λ alone. GoesOnBehind takers alone.count alone.stream (services_in self.now) packet.now) }
+    {
+        let Some((_, behind)) = libraries.split_first() else {
+            return None;
+        };
+        if all {
+            return None;
+        }
+        if takers == 1 {
+            return match self.first.goes_on(packet) {
+                Some(stream) => Some(Alone { count: 0, stream }),
+                None => None,
+            };
+        }
+        if takers % 2 == 1 {
+            return None;
+        }
+        let others = self.others.as_slice();
+        let shift = shift_of(takers / 2, others.len().min(behind.len()));
+        if shift.takers != 1 {
+            return None;
+        }
+        let (_, others) = others.split_at(shift.count);
+        let Some((service, _)) = others.split_first() else {
+            return None;
+        };
+        match service.goes_on(packet) {
+            Some(stream) => Some(Alone {
+                count: shift.count + 1,
+                stream,
+            }),
+            None => None,
+        }
+    }
+
+    /// Passes a packet on through the service that alone takes it, and for which it goes on alone.
+    ///
+    /// # Errors
+    ///
+    /// As for [`pass_each`].
+    #[inline(always)]
+    fn go_on<K: PacketSink>(
+        &mut self,
+        alone: Alone,
+        packet: &Packet,
+        libraries: &[AdLibrary],
+        out: &mut K,
+    ) -> Result<(), FeedFault>
+        requires below { alone.stream < 8 }
+        requires services { alone.count ≤ self.old.others.len }
+        requires libraries { alone.count ≤ length libraries.now }
+        ensures leads { K.leads out.old out.new }
+        ensures ok { (ts : List ServiceTerms) (steps : List Step) (takers : ℕ) (start : Option (List ℕ)) (ps : List (List ℕ))
+            → FiledAs libraries.now ts → AllServe (services_in self.old) ts steps → AreSkipped takers ts packet.now steps
+            → GoesOnBehind takers alone.count alone.stream (services_in self.old) packet.now → K.holds out.old start ps
+            → OnOk result (PassedEach true false (services_in self.new) ts packet.now steps (λ l. K.holds out.new start (ps ++ l))) }
+        ensures err { (ts : List ServiceTerms) (steps : List Step) (takers : ℕ) (start : Option (List ℕ)) (ps : List (List ℕ))
+            → FiledAs libraries.now ts → AllServe (services_in self.old) ts steps → AreSkipped takers ts packet.now steps
+            → GoesOnBehind takers alone.count alone.stream (services_in self.old) packet.now → K.holds out.old start ps
+            → IfErr result (λ f. FailedEach f ts packet.now steps (parts_of ts packet.now steps)
+            (λ l. K.holds out.new start (ps ++ l)) (λ put q x. K.fails out.new start (ps ++ put) q x)) }
+        ensures well { OnOk result (WentWell (K.counts out.old) (K.counts out.new)) }
+        ensures blamed { IfErr result (λ f. OutputBlamed (RunFault.Feed f)
+            (K.counts out.old) (K.counts out.new) (K.is_full out.new)) }
+        ensures counts { self.new.counts ≡ self.old.counts }
+        ensures owners { self.new.owners ≡ self.old.owners }
+    {
+        of_bytes(packet);
+        let Some((library, behind)) = libraries.split_first() else {
+            return Err(FeedFault::Failed);
+        };
+        if alone.count == 0 {
+            return match pass_alone(alone.stream, &mut self.first, library, packet, out) {
+                Ok(()) => Ok(()),
+                Err(fault) => Err(fault),
+            };
+        }
+        let (_front, others) = self.others.as_mut_slice().split_at_mut(alone.count - 1);
+        let (_before, behind) = behind.split_at(alone.count - 1);
+        match go_on_first(alone.stream, others, behind, packet, out) {
+            Ok(()) => Ok(()),
+            Err(fault) => Err(fault),
+        }
+    }
+
     /// Does what [`Desk::pass_through`] does. It stands by itself, so that a packet that no service takes does not pay for its room.
     ///
     /// # Errors
@@ -439,7 +571,19 @@ impl<M: Allocator> Desk<M> {
                 learns: false,
             });
         }
-        self.pass_to_takers(all, takers, packet, libraries, out)
+        if let Some(alone) = self.goes_on(all, takers, libraries, packet) {
+            return match self.go_on(alone, packet, libraries, out) {
+                Ok(()) => Ok(Passed {
+                    is_own: true,
+                    learns: false,
+                }),
+                Err(fault) => Err(fault),
+            };
+        }
+        match self.pass_to_takers(all, takers, packet, libraries, out) {
+            Ok(passed) => Ok(passed),
+            Err(fault) => Err(fault),
+        }
     }
 
     /// Passes a packet on: what the service sends on whose PIDs it is, or the packet alone. Whether more PIDs may be known of a service.

@@ -1,8 +1,10 @@
 -- Services that take a packet, behind some that do not: these stay as they are.
 use Rattle.std.proofs.Common.{◌≡◌, ◌+◌, ◌/◌, ℕ, length, List, [], ◌∷◌, ◌++◌, Bool, true, false, ◌||◌, take, drop, refl, sym, ap, subst, ◌∙◌, arith}
-use Rattle.std.specs.Prelude.{if◌then◌else◌, Result, Ok, Err, OnOk, Option, Some, None, IfSome}
+use Rattle.std.specs.Prelude.{if◌then◌else◌, Result, Ok, Err, OnOk, IfOk, Option, Some, None, IfSome}
 use Rattle.std.specs.List.{list_any}
-use Rattle.std.proofs.lemmas.List.{length-append, take-append-drop}
+use Rattle.std.proofs.lemmas.List.{length-append}
+use lib.Seq.{drop-append_seam}
+use Rattle.chain_services.specs.declared.owners.Alone.{Alone}
 use Rattle.ts_packet.specs.Fields.{pid_of}
 use Rattle.wire_fields.specs.Numbers.{AreBytes}
 use Rattle.ad_library.specs.declared.library.AdLibrary.{AdLibrary}
@@ -13,7 +15,7 @@ use Rattle.services_on_air.specs.Airing.{Airing, nexts, owns, leaves, learns, is
 use Rattle.services_on_air.specs.Histories.{Gone, HasGone, begins_anew, gone_on, gone_settled, put_settled, put_own, aired_as}
 use Rattle.services_on_air.specs.Standing.{AllStand, AllSettled}
 use Rattle.services_on_air.specs.Serving.{AllGone, gones_settled, puts_settled, gones_on, puts_on}
-use Rattle.services_on_air.specs.Owners.{AllJudged, MayAllStay, AreLeftOut, TakerGoesOn}
+use Rattle.services_on_air.specs.Owners.{AllJudged, MayAllStay, AreLeftOut, FirstGoesOnAir, TakerGoesOn}
 use Rattle.services_on_air.specs.declared.service.AirService.{AirService}
 use Rattle.services_on_air.proofs.ServiceLemmas.{leaves-is}
 use Rattle.services_on_air.proofs.BesideLemmas.{stays-same, stays-settled, left-out, stays-behind, stays-passed, stays-gone}
@@ -197,9 +199,6 @@ gone-behind-passed (l ∷ lfront) lback (s ∷ front) back left takers (t ∷ ts
 
 -- ---- a list in two parts
 
-pub whole-of : {A : Type 0} (n : ℕ) (l front back : List A) → front ≡ take n l → back ≡ drop n l → l ≡ front ++ back
-whole-of n l front back f b = sym (ap (λ k. k ++ back) f ∙ ap (λ k. take n l ++ k) b ∙ take-append-drop n l)
-
 -- there are as many behind as of what stands for the others
 pub fewer-behind : {A : Type 0} (l front back : List A) (x f y n : ℕ) → l ≡ front ++ back → length l ≡ x → x ≡ f + y → length front ≡ n → f ≡ n → length back ≡ y
 fewer-behind l front back x f y n whole many long one other = let e = ap length whole ∙ length-append front back in omega (arith, e, many, long, one, other)
@@ -214,18 +213,28 @@ pub if-some : {T : Type 0} (o : Option T) (P Q : T → Type 0) → ((x : T) → 
 if-some (Some x) P Q so h = so x h
 if-some None P Q so h = tt
 
+pub if-both-some : {T : Type 0} (o : Option T) (P Q R : T → Type 0) → ((x : T) → P x → Q x → R x) → IfSome o P → IfSome o Q → IfSome o R
+if-both-some (Some x) P Q R so p q = so x p q
+if-both-some None P Q R so p q = tt
+
+pub if-both-ok : {T E : Type 0} (r : Result T E) (P Q R : T → Type 0) → ((x : T) → P x → Q x → R x) → IfOk r P → IfOk r Q → IfOk r R
+if-both-ok (Ok x) P Q R so p q = so x p q
+if-both-ok (Err e) P Q R so p q = tt
+
 pub none-said : {T : Type 0} (o : Option T) (P : T → Type 0) → o ≡ None → IfSome o P
 none-said o P none = subst (λ x. IfSome x P) (sym none) tt
 
 -- ---- the one that alone takes the packet
 
-pub taker-behind : (front new : List AirService) (left takers stream : ℕ) (p : List ℕ) → IsShifted (length front) left takers → left ≡ 1 → TakerGoesOn 1 new stream p
-    → TakerGoesOn takers (front ++ new) stream p
-taker-behind [] new left takers stream p shifted one h = subst (λ n. TakerGoesOn n new stream p) (sym one ∙ shifted) h
-taker-behind (s ∷ front) new left takers stream p shifted one h =
-    (λ only. let even = shifted.0 in absurd (omega arith), λ bit. taker-behind front new left (takers / 2) stream p shifted.1 one h)
+pub taker-behind : (front new : List AirService) (takers : ℕ) (alone : Alone) (p : List ℕ) → length front ≡ alone.count → IsShifted alone.count 1 takers
+    → FirstGoesOnAir new alone.stream p → TakerGoesOn takers alone (front ++ new) p
+taker-behind front new takers alone p many shifted on = record {
+  few = let e = length-append front new in omega (arith, e, many);
+  taker = shifted;
+  goes_on = subst (λ k. FirstGoesOnAir (drop k (front ++ new)) alone.stream p) many (subst (λ l. FirstGoesOnAir l alone.stream p) (sym (drop-append_seam front new)) on);
+}
 
-pub taker-apart : (front back : List AirService) (left takers stream : ℕ) (p : List ℕ) → IsShifted (length front) left takers → left ≡ 1 → TakerGoesOn takers (front ++ back) stream p
-    → TakerGoesOn 1 back stream p
-taker-apart [] back left takers stream p shifted one h = subst (λ n. TakerGoesOn n back stream p) (sym shifted ∙ one) h
-taker-apart (s ∷ front) back left takers stream p shifted one h = taker-apart front back left (takers / 2) stream p shifted.1 one (h.1 shifted.0)
+pub taker-apart : (front back : List AirService) (takers : ℕ) (alone : Alone) (p : List ℕ) → length front ≡ alone.count → TakerGoesOn takers alone (front ++ back) p
+    → FirstGoesOnAir back alone.stream p
+taker-apart front back takers alone p many h =
+    subst (λ l. FirstGoesOnAir l alone.stream p) (drop-append_seam front back) (subst (λ k. FirstGoesOnAir (drop k (front ++ back)) alone.stream p) (sym many) h.goes_on)

@@ -1,5 +1,5 @@
 -- The table of the services that take the packets of each PID, and the services that need not be shown a packet.
-use Rattle.std.proofs.Common.{◌≡◌, ◌<◌, ◌%◌, ◌/◌, ℕ, List, [], ◌∷◌, length, Bool, true, false, not, ◌==◌, ◌||◌, ◌&&◌, ◌≢◌, refl, sym, ap, subst, ◌∙◌, arith}
+use Rattle.std.proofs.Common.{◌≡◌, ◌<◌, ◌%◌, ◌/◌, ℕ, zero, suc, List, [], ◌∷◌, length, Bool, true, false, not, ◌==◌, ◌||◌, ◌&&◌, ◌≢◌, refl, sym, ap, subst, ◌∙◌, arith}
 use Rattle.std.specs.Prelude.{slice_index_or}
 use Rattle.std.specs.List.{list_any}
 use Rattle.std.proofs.Math.ListN.{set}
@@ -10,7 +10,7 @@ use Rattle.ts_packet.proofs.Cases.{by_test}
 use Rattle.scte104_codec.specs.declared.reply.Reply.{Reply}
 use Rattle.injector.specs.declared.requests.Requests.{Requests}
 use Rattle.chain_engine.specs.Judging.{JudgesAll}
-use Rattle.chain_services.specs.Owners.{AllTake}
+use Rattle.chain_services.specs.Owners.{AllTake, IsShifted}
 use Rattle.services_on_air.specs.Airing.{Airing, nexts, learns}
 use Rattle.service_laws.specs.Services.{ServiceTerms}
 use Rattle.services_on_air.specs.Histories.{Gone, begins_anew}
@@ -159,6 +159,17 @@ pub left-all : (owners : List ℕ) (takers pid : ℕ) (asks all : Bool) (ss : Li
     → (all ≡ false → takers < 255) → (asks ≡ false → slice_index_or owners pid 0 < 255 → AreLeftOut (slice_index_or owners pid 0) ss pid ys) → all ≡ false → AreLeftOut takers ss pid ys
 left-all owners takers pid asks all ss ys known open_so told left none =
     let is = known (open_so none) in subst (λ n. AreLeftOut n ss pid ys) (sym is) (left (open_so none) (subst (λ n. n < 255) is (told none)))
+
+-- where one alone takes it, not all do
+not-all : (count takers : ℕ) → IsShifted count 1 takers → takers < 256 → takers < 255
+not-all zero takers one small = let e : 1 ≡ takers = one in omega (arith, e)
+not-all (suc count) takers shifted small = let even = shifted.0 in omega (arith, even, small)
+
+pub told-left : (owners : List ℕ) (takers count : ℕ) (ss : List AirService) (p : List ℕ) (ys : List Airing) → IsShifted count 1 takers → takers < 256
+    → takers ≡ slice_index_or owners (pid_of p) 0 → (slice_index_or owners (pid_of p) 0 < 255 → AreLeftOut (slice_index_or owners (pid_of p) 0) ss (pid_of p) ys)
+    → AreLeftOut takers ss (pid_of p) ys
+told-left owners takers count ss p ys shifted small is left =
+    subst (λ n. AreLeftOut n ss (pid_of p) ys) (sym is) (left (subst (λ n. n < 255) is (not-all count takers shifted small)))
 
 -- ---- the packet is settled
 

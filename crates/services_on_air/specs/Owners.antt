@@ -1,7 +1,9 @@
 -- Which services take the packets of a PID: the others need not be shown them.
-use Rattle.std.specs.Prelude.{◌≡◌, ◌<◌, ◌%◌, ◌/◌, ℕ, false, List, [], ◌∷◌, slice_index_or, Some}
+use Rattle.std.specs.Prelude.{◌≡◌, ◌<◌, ◌≤◌, ◌%◌, ◌/◌, ℕ, false, List, [], ◌∷◌, length, drop, slice_index_or, Some}
 use Rattle.program_follower.specs.Following.{IsUnfollowed}
 use Rattle.chain_engine.specs.Passing.{GoesOnBy}
+use Rattle.chain_services.specs.Owners.{IsShifted}
+use Rattle.chain_services.specs.declared.owners.Alone.{Alone}
 use Rattle.on_air.specs.Stretches.{Entry, as_read}
 use Rattle.on_air.specs.AirRuns.{newest, has_no}
 use Rattle.services_on_air.specs.Airing.{Airing, before_last}
@@ -63,7 +65,13 @@ AreLeftOut takers [] pid ys = Unit {0}
 AreLeftOut takers (s ∷ ss) pid [] = Unit {0}
 AreLeftOut takers (s ∷ ss) pid (a ∷ ys) = (takers % 2 ≡ 0 → IsLeftOut s pid a) × AreLeftOut (takers / 2) ss pid ys
 
--- where one of them alone takes the packet that is settled, it goes on alone for that one, in this stream
-abbrev pub TakerGoesOn : ℕ → List AirService → ℕ → List ℕ → Type 0
-TakerGoesOn takers [] stream p = Unit {0}
-TakerGoesOn takers (s ∷ ss) stream p = (takers ≡ 1 → GoesOnBy s.service stream p) × (takers % 2 ≡ 0 → TakerGoesOn (takers / 2) ss stream p)
+-- the first of these services judges the packet that is settled, which goes on alone there, in the switched stream of this number
+abbrev pub FirstGoesOnAir : List AirService → ℕ → List ℕ → Type 0
+FirstGoesOnAir [] stream p = ⊥
+FirstGoesOnAir (s ∷ ss) stream p = (s.is_unjudged ≡ false) × GoesOnBy s.service stream p
+
+-- the one behind so many of them alone takes it, and it goes on so
+pub record TakerGoesOn (takers : ℕ) (alone : Alone) (ss : List AirService) (p : List ℕ) : Type 0 where
+  pub few : alone.count ≤ length ss
+  pub taker : IsShifted alone.count 1 takers
+  pub goes_on : FirstGoesOnAir (drop alone.count ss) alone.stream p

@@ -23,6 +23,7 @@ use Rattle.services_on_air.specs.Serving.{DeskGone, gones_asked, reply_by_gone}
 use Rattle.services_on_air.specs.Owners.{HasOwnersOnAir, HasOwnersAhead, AllJudged, AreLeftOut, TakerGoesOn}
 use Rattle.services_on_air.specs.declared.service.AirService.{AirService}
 use Rattle.services_on_air.specs.declared.service.Passed.{Passed}
+use Rattle.chain_services.specs.declared.owners.Alone.{Alone}
 use Rattle.services_on_air.specs.declared.desk.AirDesk.{AirDesk}
 use Rattle.services_on_air.specs.declared.services.AirServices.{AirServices}
 
@@ -104,8 +105,8 @@ DeskLeavesOut desk p ys = desk.asks_all ≡ false → slice_index_or desk.owners
 abbrev pub StillTold : {M : Type 0} → AirDesk M → ℕ → List ℕ → Type 0
 StillTold desk takers p = desk.asks_all ≡ false → takers ≡ slice_index_or desk.owners (pid_of p) 0
 
-abbrev pub StillGoesOn : {M : Type 0} → AirDesk M → ℕ → Option ℕ → List ℕ → Type 0
-StillGoesOn desk takers goes_on p = desk.asks_all ≡ false → IfSome goes_on (λ stream. TakerGoesOn takers desk.services.items stream p)
+abbrev pub StillGoesOn : {M : Type 0} → AirDesk M → ℕ → Alone → List ℕ → Type 0
+StillGoesOn desk takers alone p = desk.asks_all ≡ false → TakerGoesOn takers alone desk.services.items p
 
 -- and unless all are to be shown the next one, none left the last one unjudged
 abbrev pub DeskJudged : {M : Type 0} → AirDesk M → Type 0

@@ -27,7 +27,7 @@ use crate::watch::{ServiceBegun, ServicesWatch, Shown};
 use ad_library::AdLibrary;
 use arrayvec::ArrayVec;
 use chain_engine::{Judge, RunFault, Service, put_fault};
-use chain_services::Nowhere;
+use chain_services::{Alone, Nowhere};
 use on_air::{MapTail, Marks, Standing, Verdict};
 use psi_tables::{Config, FeedFault};
 use scte104_codec::{BadMessage, Message, Reply};
@@ -107,8 +107,8 @@ impl Passed {
 pub(crate) struct Settled {
     /// A stretch begins with it.
     pub(crate) is_anew: bool,
-    /// The number of the switched stream in which it goes on alone for the service that alone takes it; `None` where it does not, or that is open.
-    pub(crate) goes_on: Option<usize>,
+    /// Which service alone takes it, where it goes on alone for that one; `None` where it does not, or that is open.
+    pub(crate) goes_on: Option<Alone>,
 }
 
 impl Settled {
@@ -334,7 +334,28 @@ impl AirService {
         self.settle_closely(next, library, out, watch)
     }
 
-    /// Does what [`AirService::settle`] does, and tells in which stream the packet goes on alone.
+    /// The number of the switched stream in which the next packet goes on alone, where it is judged and its stretch goes on with it. So it is of
+    /// nine packets in ten that are of a stream.
+    #[inline(always)]
+    fn just_goes_on(&self, packet: &Packet) -> Option<usize>
+        ensures becomes { (c : Config) (past : List Entry) → self.now.service.config ≡ c → Keeps self.now.marks (writing_cues c) past
+            → HasFollowed self.now.service c (as_read past)
+            → IfSome result (λ _. Becomes Verdict.Judged self.now.marks (writing_cues c) packet.now past) }
+        ensures goes_on { IfSome result (λ _. (self.now.is_empty ≡ false) × (self.now.shares ≡ false)) }
+        ensures below { IfSome result (λ stream. stream < 8) }
+        ensures alone { IfSome result (λ stream. GoesOnBy self.now.service stream packet.now) }
+    {
+        if self.is_empty || self.shares || self.marks.has_any() {
+            return None;
+        }
+        match self.service.goes_on(packet) {
+            Some(stream) => Some(stream),
+            None => None,
+        }
+    }
+
+    /// Does what [`AirService::settle`] does for a packet that this service alone takes, before which so many services stand, and tells in which
+    /// stream the packet goes on alone.
     ///
     /// # Errors
     ///
@@ -342,6 +363,7 @@ impl AirService {
     #[inline(always)]
     pub(crate) fn settle_alone<K: PacketSink, A: ServicesWatch>(
         &mut self,
+        count: usize,
         next: Numbered<'_>,
         library: &AdLibrary,
         out: &mut K,
@@ -355,14 +377,20 @@ impl AirService {
             → OnOk result (HasGone self.new t (gone_settled t (begins_anew next.entry.packet.now a) g)
             × K.holds out.new start (ps ++ put_settled t (begins_anew next.entry.packet.now a) g)) }
         ensures anew { (a : Airing) → AirStandsFor self.old a → IfOk result (λ settled. settled.is_anew ≡ begins_anew next.entry.packet.now a) }
-        ensures below { IfOk result (λ settled. IfSome settled.goes_on (λ stream. stream < 8)) }
-        ensures alone { IfOk result (λ settled. IfSome settled.goes_on (λ stream. GoesOnBy self.new.service stream next.entry.packet.now)) }
+        ensures below { IfOk result (λ settled. IfSome settled.goes_on (λ alone. alone.stream < 8)) }
+        ensures count { IfOk result (λ settled. IfSome settled.goes_on (λ alone. alone.count ≡ count)) }
+        ensures alone { IfOk result (λ settled. IfSome settled.goes_on (λ alone. (self.new.is_unjudged ≡ false)
+            × GoesOnBy self.new.service alone.stream next.entry.packet.now)) }
     {
+        if let Some(stream) = self.just_goes_on(next.packet) {
+            self.is_unjudged = false;
+            return Ok(Settled {
+                is_anew: false,
+                goes_on: Some(Alone { count, stream }),
+            });
+        }
         match self.settle(next, library, out, watch) {
-            Ok(is_anew) => Ok(Settled {
-                is_anew,
-                goes_on: self.service.goes_on(next.packet),
-            }),
+            Ok(is_anew) => Ok(Settled::of(is_anew)),
             Err(fault) => Err(fault),
         }
     }
@@ -568,23 +596,23 @@ impl AirService {
     ///
     /// The sink's.
     #[inline(always)]
-    fn pass_alone<K: PacketSink>(
+    pub(crate) fn pass_alone<K: PacketSink>(
         &mut self,
         stream: usize,
         packet: &Packet,
         library: &AdLibrary,
         out: &mut K,
     ) -> Result<Passed, PutFault>
-        requires below { stream < 8 }
-        requires judged { self.old.is_unjudged ≡ false }
+        requires { stream < 8 }
         ensures leads { K.leads out.old out.new }
-        ensures stands { (a : Airing) → IsSettled self.old packet.now a → GoesOnBy self.old.service stream packet.now
-            → IfOk result (λ passed. AirStandsFor self.new a × IsPassed passed packet.now a) }
+        ensures stands { (a : Airing) → IsSettled self.old packet.now a → self.old.is_unjudged ≡ false
+            → GoesOnBy self.old.service stream packet.now → IfOk result (λ passed. AirStandsFor self.new a × IsPassed passed packet.now a) }
         ensures out { (t : ServiceTerms) (g : Gone) (start : Option (List ℕ)) (ps : List (List ℕ)) → held library.now ≡ t.filed
             → HasGone self.old t g → GoesOnBy self.old.service stream packet.now → K.holds out.old start ps
             → IfOk result (λ passed. HasGone self.new t (gone_on t (judged packet.now) g)
             × K.holds out.new start (ps ++ put_own passed.is_own t (judged packet.now) g)) }
-        ensures left { IfOk result (λ passed. passed.has_left ≡ self.new.is_unjudged) }
+        ensures left { self.old.is_unjudged ≡ false → IfOk result (λ passed. passed.has_left ≡ self.new.is_unjudged) }
+        ensures alone { IfOk result (λ passed. (passed.is_own ≡ true) × (passed.has_left ≡ false)) }
     {
         match self.service.go_on(stream, packet, library, out) {
             Ok(()) => Ok(Passed::alone()),
@@ -649,38 +677,6 @@ impl AirService {
             return self.pass_alone(stream, packet, library, out);
         }
         self.pass_closely(packet, library, out)
-    }
-
-    /// Passes the packet on that was settled, as [`AirService::pass`] does, where it is known in which stream it goes on alone.
-    ///
-    /// # Errors
-    ///
-    /// The sink's.
-    #[inline(always)]
-    pub(crate) fn pass_known<K: PacketSink>(
-        &mut self,
-        goes_on: Option<usize>,
-        packet: &Packet,
-        library: &AdLibrary,
-        out: &mut K,
-    ) -> Result<Passed, PutFault>
-        requires { IfSome goes_on (λ stream. stream < 8) }
-        ensures leads { K.leads out.old out.new }
-        ensures stands { (a : Airing) → IsSettled self.old packet.now a → IfSome goes_on (λ stream. GoesOnBy self.old.service stream packet.now)
-            → IfOk result (λ passed. AirStandsFor self.new a × IsPassed passed packet.now a) }
-        ensures out { (t : ServiceTerms) (g : Gone) (start : Option (List ℕ)) (ps : List (List ℕ)) → held library.now ≡ t.filed
-            → HasGone self.old t g → IfSome goes_on (λ stream. GoesOnBy self.old.service stream packet.now) → K.holds out.old start ps
-            → IfOk result (λ passed. HasGone self.new t (gone_on t (aired_as packet.now self.old.is_unjudged) g)
-            × K.holds out.new start (ps ++ put_own passed.is_own t (aired_as packet.now self.old.is_unjudged) g)) }
-        ensures left { IfOk result (λ passed. passed.has_left ≡ self.new.is_unjudged) }
-    {
-        let Some(stream) = goes_on else {
-            return self.pass_closely(packet, library, out);
-        };
-        if self.is_unjudged {
-            return self.pass_closely(packet, library, out);
-        }
-        self.pass_alone(stream, packet, library, out)
     }
 
     /// Puts what is left of the advertisements that run, and tells what became of the events of all its stretches.

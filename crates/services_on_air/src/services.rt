@@ -1,6 +1,6 @@
 //! The services of a run on air, packet by packet.
 
-ghost use Rattle.std.specs.Prelude.{◌≡◌, ◌++◌, ◌+◌, ℕ, if◌then◌else◌, List, ◌∷◌, [], true, false, Option, None, ◌<◌};
+ghost use Rattle.std.specs.Prelude.{◌≡◌, ◌++◌, ◌+◌, ℕ, if◌then◌else◌, List, ◌∷◌, [], true, false, Option, None, ◌<◌, ◌≤◌};
 ghost use Rattle.std.specs.Prelude.{map, length, slice_index_or, OnOk, IfOk, IfErr, IfSome};
 ghost use Rattle.ts_packet.specs.Fields.{pid_of};
 ghost use Rattle.ad_library.specs.Library.{held};
@@ -16,7 +16,7 @@ ghost use Rattle.chain_services.specs.Refused.{services_refused, IsRefused};
 ghost use Rattle.services_on_air.specs.Airing.{Airing, begins, parted, begun_in};
 ghost use Rattle.services_on_air.specs.Standing.{AirStandsFor, IsSettled, IsPassed, AllStand, AllSettled, ArePassed};
 ghost use Rattle.services_on_air.specs.Standing.{DeskJudged, AirServicesStandFor, AreSettled, StillTold, StillGoesOn, HavePassed, TellsOfAll};
-ghost use Rattle.services_on_air.specs.Owners.{HasOwnersOnAir, AllJudged, IsLeftOut, AreLeftOut, TakerGoesOn};
+ghost use Rattle.services_on_air.specs.Owners.{HasOwnersOnAir, AllJudged, IsLeftOut, AreLeftOut, FirstGoesOnAir, TakerGoesOn};
 ghost use Rattle.services_on_air.specs.Histories.{Gone, HasGone, gone_on, put_own, aired_as};
 ghost use Rattle.services_on_air.specs.Outputs.{lost_among};
 ghost use Rattle.services_on_air.specs.Serving.{AllGone, DeskGone, nothings_gone, gones_on, puts_on, puts_last};
@@ -32,8 +32,8 @@ use ad_library::AdLibrary;
 use arrayvec::ArrayVec;
 use chain_engine::{Automation, OutOfMemory, Talk, of_bytes};
 use chain_services::{
-    Owners, ServiceEvents, ServiceFault, ServiceReport, Services, leaves_out, leaves_out_all,
-    shift_of, takes_all,
+    Alone, Owners, ServiceEvents, ServiceFault, ServiceReport, Services, leaves_out,
+    leaves_out_all, shift_of, takes_all,
 };
 use injector::{MessageCounts, Requests};
 use on_air::AirReport;
@@ -158,25 +158,20 @@ fn pass_each<K: PacketSink>(
 /// The sink's.
 #[inline(always)]
 fn pass_first<K: PacketSink>(
-    goes_on: Option<usize>,
     services: &mut [AirService],
     libraries: &[AdLibrary],
     packet: &Packet,
     out: &mut K,
 ) -> Result<Passed, PutFault>
-    requires { IfSome goes_on (λ stream. stream < 8) }
     ensures leads { K.leads out.old out.new }
     ensures stands { (xs : List Airing) → AllSettled services.old packet.now xs → length libraries.now ≡ length xs
         → AreLeftOut 1 services.old (pid_of packet.now) xs
-        → IfSome goes_on (λ stream. TakerGoesOn 1 services.old stream packet.now)
         → IfOk result (λ passed. AllStand services.new xs × ArePassed passed packet.now xs) }
     ensures judged { (xs : List Airing) → AllSettled services.old packet.now xs → length libraries.now ≡ length xs
         → AreLeftOut 1 services.old (pid_of packet.now) xs
-        → IfSome goes_on (λ stream. TakerGoesOn 1 services.old stream packet.now)
         → IfOk result (λ passed. passed.has_left ≡ false → AllJudged services.new) }
     ensures out { (ys : List Airing) (ts : List ServiceTerms) (gs : List Gone) (start : Option (List ℕ)) (ps : List (List ℕ))
         → AllSettled services.old packet.now ys → AreLeftOut 1 services.old (pid_of packet.now) ys
-        → IfSome goes_on (λ stream. TakerGoesOn 1 services.old stream packet.now)
         → FiledAs libraries.now ts → AllGone services.old ts gs → K.holds out.old start ps
         → OnOk result (AllGone services.new ts (gones_on ts packet.now ys gs)
         × K.holds out.new start (ps ++ puts_on ts packet.now ys gs)) }
@@ -188,7 +183,48 @@ fn pass_first<K: PacketSink>(
     let Some((library, _behind)) = libraries.split_first() else {
         return Ok(Passed::beside());
     };
-    service.pass_known(goes_on, packet, library, out)
+    service.pass(packet, library, out)
+}
+
+/// Does what [`pass_first`] does, where the packet goes on alone for that service in the stream of this number.
+///
+/// # Errors
+///
+/// The sink's.
+#[inline(always)]
+fn go_on_first<K: PacketSink>(
+    stream: usize,
+    services: &mut [AirService],
+    libraries: &[AdLibrary],
+    packet: &Packet,
+    out: &mut K,
+) -> Result<Passed, PutFault>
+    requires { stream < 8 }
+    ensures leads { K.leads out.old out.new }
+    ensures stands { (xs : List Airing) → AllSettled services.old packet.now xs → length libraries.now ≡ length xs
+        → AreLeftOut 1 services.old (pid_of packet.now) xs
+        → FirstGoesOnAir services.old stream packet.now
+        → IfOk result (λ passed. AllStand services.new xs × ArePassed passed packet.now xs) }
+    ensures judged { (xs : List Airing) → AllSettled services.old packet.now xs → length libraries.now ≡ length xs
+        → AreLeftOut 1 services.old (pid_of packet.now) xs
+        → FirstGoesOnAir services.old stream packet.now
+        → IfOk result (λ passed. passed.has_left ≡ false → AllJudged services.new) }
+    ensures out { (ys : List Airing) (ts : List ServiceTerms) (gs : List Gone) (start : Option (List ℕ)) (ps : List (List ℕ))
+        → AllSettled services.old packet.now ys → AreLeftOut 1 services.old (pid_of packet.now) ys
+        → FirstGoesOnAir services.old stream packet.now
+        → FiledAs libraries.now ts → AllGone services.old ts gs → K.holds out.old start ps
+        → OnOk result (AllGone services.new ts (gones_on ts packet.now ys gs)
+        × K.holds out.new start (ps ++ puts_on ts packet.now ys gs)) }
+    ensures alone { IfOk result (λ passed. (passed.is_own ≡ true) × (passed.has_left ≡ false)) }
+{
+    of_bytes(packet);
+    let Some((service, _others)) = services.split_first_mut() else {
+        return Ok(Passed::alone());
+    };
+    let Some((library, _behind)) = libraries.split_first() else {
+        return Ok(Passed::alone());
+    };
+    service.pass_alone(stream, packet, library, out)
 }
 
 /// Does what [`pass_each`] does, and begins with the first of these services that takes the packet.
@@ -200,25 +236,20 @@ fn pass_first<K: PacketSink>(
 fn pass_some<K: PacketSink>(
     all: bool,
     takers: u8,
-    goes_on: Option<usize>,
     services: &mut [AirService],
     libraries: &[AdLibrary],
     packet: &Packet,
     out: &mut K,
 ) -> Result<Passed, PutFault>
-    requires { IfSome goes_on (λ stream. stream < 8) }
     ensures leads { K.leads out.old out.new }
     ensures stands { (xs : List Airing) → AllSettled services.old packet.now xs → length libraries.now ≡ length xs
         → (all ≡ false → AreLeftOut takers services.old (pid_of packet.now) xs)
-        → (all ≡ false → IfSome goes_on (λ stream. TakerGoesOn takers services.old stream packet.now))
         → IfOk result (λ passed. AllStand services.new xs × ArePassed passed packet.now xs) }
     ensures judged { (xs : List Airing) → AllSettled services.old packet.now xs → length libraries.now ≡ length xs
         → (all ≡ false → AreLeftOut takers services.old (pid_of packet.now) xs)
-        → (all ≡ false → IfSome goes_on (λ stream. TakerGoesOn takers services.old stream packet.now))
         → IfOk result (λ passed. passed.has_left ≡ false → AllJudged services.new) }
     ensures out { (ys : List Airing) (ts : List ServiceTerms) (gs : List Gone) (start : Option (List ℕ)) (ps : List (List ℕ))
         → AllSettled services.old packet.now ys → (all ≡ false → AreLeftOut takers services.old (pid_of packet.now) ys)
-        → (all ≡ false → IfSome goes_on (λ stream. TakerGoesOn takers services.old stream packet.now))
         → FiledAs libraries.now ts → AllGone services.old ts gs → K.holds out.old start ps
         → OnOk result (AllGone services.new ts (gones_on ts packet.now ys gs)
         × K.holds out.new start (ps ++ puts_on ts packet.now ys gs)) }
@@ -230,14 +261,11 @@ fn pass_some<K: PacketSink>(
     if all {
         return pass_each(all, takers, services, libraries, packet, out);
     }
-    if takers == 1 {
-        return pass_first(goes_on, services, libraries, packet, out);
-    }
     let shift = shift_of(takers, services.len().min(libraries.len()));
     let (_, services) = services.split_at_mut(shift.count);
     let (_, libraries) = libraries.split_at(shift.count);
     if shift.takers == 1 {
-        return pass_first(goes_on, services, libraries, packet, out);
+        return pass_first(services, libraries, packet, out);
     }
     pass_each(false, shift.takers, services, libraries, packet, out)
 }
@@ -396,13 +424,14 @@ impl<M: Allocator> AirServices<M> {
         libraries: &[AdLibrary],
         out: &mut K,
         watch: &mut A,
-    ) -> Result<Option<usize>, PutFault>
+    ) -> Result<Option<Alone>, PutFault>
         requires pid { pid_of next.packet.now < 8192 }
         requires takers { takers ≡ slice_index_or self.old.desk.owners (pid_of next.packet.now) 0 }
         ensures leads { K.leads out.old out.new }
         ensures told { OnOk result (StillTold self.new.desk takers next.entry.packet.now) }
-        ensures below { IfOk result (λ goes_on. IfSome goes_on (λ stream. stream < 8)) }
-        ensures alone { IfOk result (λ goes_on. StillGoesOn self.new.desk takers goes_on next.entry.packet.now) }
+        ensures below { IfOk result (λ goes_on. IfSome goes_on (λ alone. alone.stream < 8)) }
+        ensures libraries { IfOk result (λ goes_on. IfSome goes_on (λ alone. alone.count ≤ length libraries.now)) }
+        ensures alone { IfOk result (λ goes_on. IfSome goes_on (λ alone. StillGoesOn self.new.desk takers alone next.entry.packet.now)) }
         ensures stands { (cs : List Config) (past : List (List ℕ)) → AirServicesStandFor self.old cs past → length libraries.now ≡ length cs
             → OnOk result (AreSettled self.new cs next.entry.packet.now past) }
         ensures out { (ts : List ServiceTerms) (past before : List (List ℕ)) (takes : List Take) (rs : List Reply) (start : Option (List ℕ))
@@ -439,8 +468,8 @@ impl<M: Allocator> AirServices<M> {
         self.talk.listen(&mut self.desk, automation);
     }
 
-    /// Passes the packet on that is settled, through each service; where it is of none it goes out. These take it, and where one alone does it goes
-    /// on alone there in this stream, where that is known, unless all are to be shown it.
+    /// Passes the packet on that is settled, through each service; where it is of none it goes out. These take it, unless
+    /// all are to be shown it.
     ///
     /// # Errors
     ///
@@ -449,20 +478,18 @@ impl<M: Allocator> AirServices<M> {
     fn pass_settled<K: PacketSink>(
         &mut self,
         takers: u8,
-        goes_on: Option<usize>,
         packet: &Packet,
         libraries: &[AdLibrary],
         out: &mut K,
     ) -> Result<Passed, PutFault>
-        requires { IfSome goes_on (λ stream. stream < 8) }
         ensures leads { K.leads out.old out.new }
         ensures stands { (cs : List Config) (past : List (List ℕ)) → AreSettled self.old cs packet.now past → length libraries.now ≡ length cs
-            → StillTold self.old.desk takers packet.now → StillGoesOn self.old.desk takers goes_on packet.now
+            → StillTold self.old.desk takers packet.now
             → IfOk result (HavePassed self.new cs packet.now past) }
         ensures out { (ts : List ServiceTerms) (past before : List (List ℕ)) (takes : List Take) (rs : List Reply) (start : Option (List ℕ))
             → AreSettled self.old (configs_of ts) packet.now past → FiledAs libraries.now ts
             → ServicesHeard self.old ts packet.now past takes rs
-            → StillTold self.old.desk takers packet.now → StillGoesOn self.old.desk takers goes_on packet.now
+            → StillTold self.old.desk takers packet.now
             → K.holds out.old start (before ++ air_ahead ts packet.now past (steps_before (length rs) takes past))
             → OnOk result (ServicesGone self.new ts (packet.now ∷ past) takes rs
             × K.holds out.new start (before ++ air_behind ts (packet.now ∷ past) takes rs)) }
@@ -470,7 +497,7 @@ impl<M: Allocator> AirServices<M> {
     {
         let all = takes_all(self.desk.asks_all, takers);
         let services = self.desk.services.as_mut_slice();
-        let passed = match pass_some(all, takers, goes_on, services, libraries, packet, out) {
+        let passed = match pass_some(all, takers, services, libraries, packet, out) {
             Ok(passed) => passed,
             Err(fault) => return Err(fault),
         };
@@ -480,6 +507,50 @@ impl<M: Allocator> AirServices<M> {
         }
         match out.put(packet) {
             Ok(()) => Ok(passed),
+            Err(fault) => Err(fault),
+        }
+    }
+
+    /// Does what [`AirServices::pass_settled`] does, where the packet goes on alone for the service that alone takes it, and no message was judged
+    /// since.
+    ///
+    /// # Errors
+    ///
+    /// The sink's.
+    #[inline(always)]
+    fn go_on<K: PacketSink>(
+        &mut self,
+        takers: u8,
+        alone: Alone,
+        packet: &Packet,
+        libraries: &[AdLibrary],
+        out: &mut K,
+    ) -> Result<Passed, PutFault>
+        requires below { alone.stream < 8 }
+        requires quiet { self.old.desk.asks_all ≡ false }
+        requires libraries { alone.count ≤ length libraries.now }
+        ensures leads { K.leads out.old out.new }
+        ensures stands { (cs : List Config) (past : List (List ℕ)) → AreSettled self.old cs packet.now past → length libraries.now ≡ length cs
+            → StillTold self.old.desk takers packet.now → StillGoesOn self.old.desk takers alone packet.now
+            → IfOk result (HavePassed self.new cs packet.now past) }
+        ensures out { (ts : List ServiceTerms) (past before : List (List ℕ)) (takes : List Take) (rs : List Reply) (start : Option (List ℕ))
+            → AreSettled self.old (configs_of ts) packet.now past → FiledAs libraries.now ts
+            → ServicesHeard self.old ts packet.now past takes rs
+            → StillTold self.old.desk takers packet.now → StillGoesOn self.old.desk takers alone packet.now
+            → K.holds out.old start (before ++ air_ahead ts packet.now past (steps_before (length rs) takes past))
+            → OnOk result (ServicesGone self.new ts (packet.now ∷ past) takes rs
+            × K.holds out.new start (before ++ air_behind ts (packet.now ∷ past) takes rs)) }
+        ensures talk { self.new.talk ≡ self.old.talk }
+    {
+        of_bytes(packet);
+        let services = self.desk.services.as_mut_slice();
+        if alone.count > services.len() {
+            return Ok(Passed::alone());
+        }
+        let (_, services) = services.split_at_mut(alone.count);
+        let (_, libraries) = libraries.split_at(alone.count);
+        match go_on_first(alone.stream, services, libraries, packet, out) {
+            Ok(passed) => Ok(passed),
             Err(fault) => Err(fault),
         }
     }
@@ -525,6 +596,27 @@ impl<M: Allocator> AirServices<M> {
         self.packets = self.packets.saturating_add(1);
     }
 
+    /// Shows and counts the packet that has passed, and takes up what was learned with it.
+    #[inline(always)]
+    fn passed<A: ServicesWatch>(
+        &mut self,
+        passed: Passed,
+        takers: u8,
+        last: Numbered<'_>,
+        libraries: &[AdLibrary],
+        watch: &mut A,
+    )
+        ensures stands { (cs : List Config) (past : List (List ℕ)) → HavePassed self.old cs last.entry.packet.now past passed
+            → AirServicesStandFor self.new cs (last.entry.packet.now ∷ past) }
+        ensures gone { (ts : List ServiceTerms) (past : List (List ℕ)) (takes : List Take) (rs : List Reply) → ServicesGone self.old ts past takes rs
+            → ServicesGone self.new ts past takes rs }
+        ensures talk { self.new.talk ≡ self.old.talk }
+    {
+        show_each(self.desk.services.as_slice(), libraries, last.packet, watch);
+        self.count(passed.is_unjudged, watch);
+        self.part(passed.learns, takers, last, watch);
+    }
+
     /// Hears the automation, and passes the next packet on, whatever is wrong with it.
     ///
     /// # Errors
@@ -558,11 +650,20 @@ impl<M: Allocator> AirServices<M> {
             Err(fault) => return Err(fault),
         };
         self.hear(automation);
-        match self.pass_settled(takers, goes_on, packet, libraries, out) {
+        if let Some(alone) = goes_on {
+            if !self.desk.asks_all {
+                return match self.go_on(takers, alone, packet, libraries, out) {
+                    Ok(passed) => {
+                        self.passed(passed, takers, next, libraries, watch);
+                        Ok(())
+                    }
+                    Err(fault) => Err(fault),
+                };
+            }
+        }
+        match self.pass_settled(takers, packet, libraries, out) {
             Ok(passed) => {
-                show_each(self.desk.services.as_slice(), libraries, packet, watch);
-                self.count(passed.is_unjudged, watch);
-                self.part(passed.learns, takers, next, watch);
+                self.passed(passed, takers, next, libraries, watch);
                 Ok(())
             }
             Err(fault) => Err(fault),

@@ -1,6 +1,6 @@
 //! What becomes of a packet in several services on air.
 
-ghost use Rattle.std.specs.Prelude.{◌≡◌, ◌||◌, ◌++◌, ◌<◌, ℕ, List, length, true, false, Option, None, OnOk, IfOk, IfSome};
+ghost use Rattle.std.specs.Prelude.{◌≡◌, ◌||◌, ◌++◌, ◌<◌, ◌≤◌, ℕ, List, length, true, false, Option, None, OnOk, IfOk, IfSome};
 ghost use Rattle.std.specs.List.{list_any};
 ghost use Rattle.ts_packet.specs.Fields.{pid_of};
 ghost use Rattle.ad_library.specs.Library.{held};
@@ -8,7 +8,7 @@ ghost use Rattle.service_laws.specs.Services.{ServiceTerms};
 ghost use Rattle.chain_services.specs.Serving.{FiledAs};
 ghost use Rattle.services_on_air.specs.Airing.{Airing, next_of, nexts};
 ghost use Rattle.services_on_air.specs.Standing.{AirStandsFor, IsSettled, AllStand, AllSettled};
-ghost use Rattle.services_on_air.specs.Owners.{MayStay, MayAllStay, IsLeftOut, AreLeftOut, TakerGoesOn};
+ghost use Rattle.services_on_air.specs.Owners.{MayStay, MayAllStay, IsLeftOut, AreLeftOut, FirstGoesOnAir, TakerGoesOn};
 ghost use Rattle.services_on_air.specs.Histories.{Gone, HasGone, gone_settled, begins_anew, put_settled};
 ghost use Rattle.services_on_air.specs.Serving.{AllGone, gones_settled, puts_settled};
 
@@ -150,14 +150,15 @@ fn settle_open<K: PacketSink, A: ServicesWatch>(
     }
 }
 
-/// Settles for the first of these services, which alone takes it, what becomes of the next packet. It looks at no other one, and so calls itself
-/// not.
+/// Settles for the first of these services, before which so many others stand and which alone takes it, what becomes of the next packet. It looks
+/// at no other one, and so calls itself not.
 ///
 /// # Errors
 ///
 /// The sink's.
 #[inline(always)]
 fn settle_first<K: PacketSink, A: ServicesWatch>(
+    count: usize,
     services: &mut [AirService],
     libraries: &[AdLibrary],
     next: Numbered<'_>,
@@ -171,8 +172,9 @@ fn settle_first<K: PacketSink, A: ServicesWatch>(
     ensures anew { (xs : List Airing) → AllStand services.old xs → length libraries.now ≡ length xs
         → MayAllStay 1 services.old (pid_of next.entry.packet.now) xs
         → IfOk result (λ settled. settled.is_anew ≡ list_any (begins_anew next.entry.packet.now) xs) }
-    ensures below { IfOk result (λ settled. IfSome settled.goes_on (λ stream. stream < 8)) }
-    ensures alone { IfOk result (λ settled. IfSome settled.goes_on (λ stream. TakerGoesOn 1 services.new stream next.entry.packet.now)) }
+    ensures below { IfOk result (λ settled. IfSome settled.goes_on (λ alone. alone.stream < 8)) }
+    ensures count { IfOk result (λ settled. IfSome settled.goes_on (λ alone. alone.count ≡ count)) }
+    ensures alone { IfOk result (λ settled. IfSome settled.goes_on (λ alone. FirstGoesOnAir services.new alone.stream next.entry.packet.now)) }
     ensures left { (xs : List Airing) → AllStand services.old xs → length libraries.now ≡ length xs
         → MayAllStay 1 services.old (pid_of next.entry.packet.now) xs
         → OnOk result (AreLeftOut 1 services.new (pid_of next.entry.packet.now) (nexts next.entry.packet.now xs)) }
@@ -188,7 +190,7 @@ fn settle_first<K: PacketSink, A: ServicesWatch>(
     let Some((library, _behind)) = libraries.split_first() else {
         return Ok(Settled::of(false));
     };
-    service.settle_alone(next, library, out, watch)
+    service.settle_alone(count, next, library, out, watch)
 }
 
 /// Does what [`settle_each`] does, and begins with the first of these services that takes the packet.
@@ -213,8 +215,9 @@ pub(crate) fn settle_some<K: PacketSink, A: ServicesWatch>(
     ensures anew { (xs : List Airing) → AllStand services.old xs → length libraries.now ≡ length xs
         → (all ≡ false → MayAllStay takers services.old (pid_of next.entry.packet.now) xs)
         → IfOk result (λ settled. settled.is_anew ≡ list_any (begins_anew next.entry.packet.now) xs) }
-    ensures below { IfOk result (λ settled. IfSome settled.goes_on (λ stream. stream < 8)) }
-    ensures alone { IfOk result (λ settled. IfSome settled.goes_on (λ stream. TakerGoesOn takers services.new stream next.entry.packet.now)) }
+    ensures below { IfOk result (λ settled. IfSome settled.goes_on (λ alone. alone.stream < 8)) }
+    ensures libraries { IfOk result (λ settled. IfSome settled.goes_on (λ alone. alone.count ≤ length libraries.now)) }
+    ensures alone { IfOk result (λ settled. IfSome settled.goes_on (λ alone. TakerGoesOn takers alone services.new next.entry.packet.now)) }
     ensures left { (xs : List Airing) → AllStand services.old xs → length libraries.now ≡ length xs
         → (all ≡ false → MayAllStay takers services.old (pid_of next.entry.packet.now) xs) → all ≡ false
         → OnOk result (AreLeftOut takers services.new (pid_of next.entry.packet.now) (nexts next.entry.packet.now xs)) }
@@ -231,13 +234,13 @@ pub(crate) fn settle_some<K: PacketSink, A: ServicesWatch>(
         return settle_open(all, takers, services, libraries, next, out, watch);
     }
     if takers == 1 {
-        return settle_first(services, libraries, next, out, watch);
+        return settle_first(0, services, libraries, next, out, watch);
     }
     let shift = shift_of(takers, services.len().min(libraries.len()));
     let (_, services) = services.split_at_mut(shift.count);
     let (_, libraries) = libraries.split_at(shift.count);
     if shift.takers == 1 {
-        return settle_first(services, libraries, next, out, watch);
+        return settle_first(shift.count, services, libraries, next, out, watch);
     }
     settle_open(false, shift.takers, services, libraries, next, out, watch)
 }

@@ -8,13 +8,5 @@ returns-then-is_left_out-clause-ok g c = λ t steps start ps filed h skip is_hel
     passed-by c.args.service.now t c.args.packet.now steps h (λ l. g.K.PacketSink.holds c.args.out.now start (ps ++ l))
     (skipped-by c.args.service.now t c.args.packet.now steps h c.of_bytes.ensures (skip c.if-is_left_out.true)) (subst (g.K.PacketSink.holds c.args.out.now start) (sym (append-nil ps)) is_held)
 
-pub returns-in-Some-clause-ok : goal.returns-in-Some-clause-ok
-returns-in-Some-clause-ok g c = λ t steps start ps filed h skip is_held.
-    c.pass_alone.ensures.ok t steps start ps filed h c.in-Some.ensures.goes_on is_held
-
-pub returns-in-Some-clause-err : goal.returns-in-Some-clause-err
-returns-in-Some-clause-err g c = λ t steps start ps filed h is_held.
-    c.pass_alone.ensures.err t steps start ps filed h c.in-Some.ensures.goes_on is_held
-
 pub returns-clause-ok : goal.returns-clause-ok
 returns-clause-ok g c = λ t steps start ps filed h skip is_held. c.pass_closely.ensures.ok t steps start ps filed h is_held

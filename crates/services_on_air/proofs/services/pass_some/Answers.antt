@@ -3,16 +3,16 @@ use Rattle.std.proofs.lemmas.List.{append-nil}
 use Rattle.ts_packet.specs.Fields.{pid_of}
 use Rattle.chain_services.specs.Owners.{IsShifted}
 use Rattle.chain_services.specs.Serving.{FiledAs}
-use Rattle.chain_services.proofs.ShiftLemmas.{if-ok}
+use Rattle.chain_services.proofs.ShiftLemmas.{if-ok, whole-of}
 use Rattle.services_on_air.specs.Standing.{AllSettled}
 use Rattle.services_on_air.specs.Serving.{AllGone}
-use Rattle.services_on_air.specs.Owners.{AreLeftOut, TakerGoesOn}
+use Rattle.services_on_air.specs.Owners.{AreLeftOut}
 use Rattle.services_on_air.proofs.StayLemmas.{all-pass, pass-gone}
-use Rattle.services_on_air.proofs.FrontLemmas.{behind-passed, gone-behind-passed, whole-of, fewer-behind, on-ok, if-some, taker-apart}
+use Rattle.services_on_air.proofs.FrontLemmas.{behind-passed, gone-behind-passed, fewer-behind, on-ok}
 use Rattle.services_on_air.proofs.services.pass_some.Goals as goal
 
 pub returns-clause-stands : goal.returns-clause-stands
-returns-clause-stands g c = λ xs h many out on.
+returns-clause-stands g c = λ xs h many out.
     let front = c.split_at_mut-services.result.0.now in
     let back = c.split_at_mut-services.result.1.now in
     let lfront = c.split_at.result.0.now in
@@ -35,7 +35,7 @@ returns-clause-stands g c = λ xs h many out on.
     )) (c.pass_each-2.ensures.stands w.ys w.settled long (λ f. w.left_out))
 
 pub returns-clause-judged : goal.returns-clause-judged
-returns-clause-judged g c = λ xs h many out on.
+returns-clause-judged g c = λ xs h many out.
     let front = c.split_at_mut-services.result.0.now in
     let back = c.split_at_mut-services.result.1.now in
     let lfront = c.split_at.result.0.now in
@@ -51,7 +51,7 @@ returns-clause-judged g c = λ xs h many out on.
     if-ok c.pass_each-2.result _ _ (λ passed k none. w.judged c.pass_each-2.new.services (k none)) (c.pass_each-2.ensures.judged w.ys w.settled long (λ f. w.left_out))
 
 pub returns-clause-out : goal.returns-clause-out
-returns-clause-out g c = λ xs ts gs start ps h out on filed all is_held.
+returns-clause-out g c = λ xs ts gs start ps h out filed all is_held.
     let front = c.split_at_mut-services.result.0.now in
     let back = c.split_at_mut-services.result.1.now in
     let lfront = c.split_at.result.0.now in
@@ -69,7 +69,7 @@ returns-clause-out g c = λ xs ts gs start ps h out on filed all is_held.
     (c.pass_each-2.ensures.out w.ys w.us w.hs start ps w.settled (λ f. w.left_out) w.filed w.all is_held)
 
 pub returns-then-leaves_out_all-clause-stands : goal.returns-then-leaves_out_all-clause-stands
-returns-then-leaves_out_all-clause-stands g c = λ xs h many out on.
+returns-then-leaves_out_all-clause-stands g c = λ xs h many out.
     let p = c.args.packet.now in
     let ss = c.args.services.now in
     let zero = c.leaves_out_all.ensures.none c.if-leaves_out_all.true in
@@ -78,7 +78,7 @@ returns-then-leaves_out_all-clause-stands g c = λ xs h many out on.
     (k.stand, record { own = c.beside.ensures.own ∙ sym k.own; unjudged = c.beside.ensures.unjudged ∙ sym k.unjudged; learns = c.beside.ensures.learns ∙ sym k.learns })
 
 pub returns-then-leaves_out_all-clause-judged : goal.returns-then-leaves_out_all-clause-judged
-returns-then-leaves_out_all-clause-judged g c = λ xs h many out on none.
+returns-then-leaves_out_all-clause-judged g c = λ xs h many out none.
     let p = c.args.packet.now in
     let ss = c.args.services.now in
     let zero = c.leaves_out_all.ensures.none c.if-leaves_out_all.true in
@@ -86,7 +86,7 @@ returns-then-leaves_out_all-clause-judged g c = λ xs h many out on none.
     (all-pass ss p xs h left).judged
 
 pub returns-then-leaves_out_all-clause-out : goal.returns-then-leaves_out_all-clause-out
-returns-then-leaves_out_all-clause-out g c = λ ys ts gs start ps h out on filed all is_held.
+returns-then-leaves_out_all-clause-out g c = λ ys ts gs start ps h out filed all is_held.
     let p = c.args.packet.now in
     let ss = c.args.services.now in
     let zero = c.leaves_out_all.ensures.none c.if-leaves_out_all.true in
@@ -96,7 +96,7 @@ returns-then-leaves_out_all-clause-out g c = λ ys ts gs start ps h out on filed
     (gone, subst (λ l. holds (ps ++ l)) (sym put) (subst holds (sym (append-nil ps)) is_held))
 
 pub returns-then-shift-eq1-clause-stands : goal.returns-then-shift-eq1-clause-stands
-returns-then-shift-eq1-clause-stands g c = λ xs h many out on.
+returns-then-shift-eq1-clause-stands g c = λ xs h many out.
     let front = c.split_at_mut-services.result.0.now in
     let back = c.split_at_mut-services.result.1.now in
     let lfront = c.split_at.result.0.now in
@@ -109,20 +109,19 @@ returns-then-shift-eq1-clause-stands g c = λ xs h many out on.
     let p = c.args.packet.now in
     let w = behind-passed front back left c.args.takers p xs shifted (subst (λ l. AllSettled l p xs) value h) (subst (λ l. AreLeftOut c.args.takers l (pid_of p) xs) value (out c.if-all.false)) in
     let one : left ≡ 1 = search rules in
-    let by = if-some c.args.goes_on _ _ (λ stream k. taker-apart front back left c.args.takers stream p shifted one (subst (λ l. TakerGoesOn c.args.takers l stream p) value k)) (on c.if-all.false) in
     let alone = subst (λ n. AreLeftOut n back (pid_of p) w.ys) one w.left_out in
     let long = fewer-behind c.args.libraries.now lfront lback (length xs) (length front) (length w.ys) c.shift_of-shift.result.count whole many w.long c.split_at.ensures.front_len many_front in
-    if-ok c.pass_first-then-shift-eq1.result _ _ (λ passed k. (
-      w.stand c.pass_first-then-shift-eq1.new.services k.0,
+    if-ok c.pass_first.result _ _ (λ passed k. (
+      w.stand c.pass_first.new.services k.0,
       record {
         own = k.1.own ∙ sym w.own;
         unjudged = k.1.unjudged ∙ sym w.unjudged;
         learns = k.1.learns ∙ sym w.learned;
       },
-    )) (c.pass_first-then-shift-eq1.ensures.stands w.ys w.settled long alone by)
+    )) (c.pass_first.ensures.stands w.ys w.settled long alone)
 
 pub returns-then-shift-eq1-clause-judged : goal.returns-then-shift-eq1-clause-judged
-returns-then-shift-eq1-clause-judged g c = λ xs h many out on.
+returns-then-shift-eq1-clause-judged g c = λ xs h many out.
     let front = c.split_at_mut-services.result.0.now in
     let back = c.split_at_mut-services.result.1.now in
     let lfront = c.split_at.result.0.now in
@@ -135,13 +134,12 @@ returns-then-shift-eq1-clause-judged g c = λ xs h many out on.
     let p = c.args.packet.now in
     let w = behind-passed front back left c.args.takers p xs shifted (subst (λ l. AllSettled l p xs) value h) (subst (λ l. AreLeftOut c.args.takers l (pid_of p) xs) value (out c.if-all.false)) in
     let one : left ≡ 1 = search rules in
-    let by = if-some c.args.goes_on _ _ (λ stream k. taker-apart front back left c.args.takers stream p shifted one (subst (λ l. TakerGoesOn c.args.takers l stream p) value k)) (on c.if-all.false) in
     let alone = subst (λ n. AreLeftOut n back (pid_of p) w.ys) one w.left_out in
     let long = fewer-behind c.args.libraries.now lfront lback (length xs) (length front) (length w.ys) c.shift_of-shift.result.count whole many w.long c.split_at.ensures.front_len many_front in
-    if-ok c.pass_first-then-shift-eq1.result _ _ (λ passed k none. w.judged c.pass_first-then-shift-eq1.new.services (k none)) (c.pass_first-then-shift-eq1.ensures.judged w.ys w.settled long alone by)
+    if-ok c.pass_first.result _ _ (λ passed k none. w.judged c.pass_first.new.services (k none)) (c.pass_first.ensures.judged w.ys w.settled long alone)
 
 pub returns-then-shift-eq1-clause-out : goal.returns-then-shift-eq1-clause-out
-returns-then-shift-eq1-clause-out g c = λ xs ts gs start ps h out on filed all is_held.
+returns-then-shift-eq1-clause-out g c = λ xs ts gs start ps h out filed all is_held.
     let front = c.split_at_mut-services.result.0.now in
     let back = c.split_at_mut-services.result.1.now in
     let lfront = c.split_at.result.0.now in
@@ -155,29 +153,7 @@ returns-then-shift-eq1-clause-out g c = λ xs ts gs start ps h out on filed all 
     let w = gone-behind-passed lfront lback front back left c.args.takers ts gs p xs (c.split_at.ensures.front_len ∙ sym many_front) shifted c.of_bytes.ensures (subst (λ l. AllSettled l p xs) value h)
     (subst (λ l. AreLeftOut c.args.takers l (pid_of p) xs) value (out c.if-all.false)) (subst (λ l. FiledAs l ts) whole filed) (subst (λ l. AllGone l ts gs) value all) in
     let one : left ≡ 1 = search rules in
-    let by = if-some c.args.goes_on _ _ (λ stream k. taker-apart front back left c.args.takers stream p shifted one (subst (λ l. TakerGoesOn c.args.takers l stream p) value k)) (on c.if-all.false) in
     let alone = subst (λ n. AreLeftOut n back (pid_of p) w.ys) one w.left_out in
-    let holds = g.K.PacketSink.holds c.pass_first-then-shift-eq1.new.out start in
-    on-ok c.pass_first-then-shift-eq1.result _ _ (λ k. (w.gone c.pass_first-then-shift-eq1.new.services k.0, subst (λ l. holds (ps ++ l)) (sym w.put) k.1))
-    (c.pass_first-then-shift-eq1.ensures.out w.ys w.us w.hs start ps w.settled alone by w.filed w.all is_held)
-
-pub returns-then-takers-eq1-clause-stands : goal.returns-then-takers-eq1-clause-stands
-returns-then-takers-eq1-clause-stands g c = λ xs h many out on.
-    let one : c.args.takers ≡ 1 = search rules in
-    let p = c.args.packet.now in
-    c.pass_first.ensures.stands xs h many (subst (λ n. AreLeftOut n c.args.services.now (pid_of p) xs) one (out c.if-all.false))
-    (if-some c.args.goes_on _ _ (λ stream k. subst (λ n. TakerGoesOn n c.args.services.now stream p) one k) (on c.if-all.false))
-
-pub returns-then-takers-eq1-clause-judged : goal.returns-then-takers-eq1-clause-judged
-returns-then-takers-eq1-clause-judged g c = λ xs h many out on.
-    let one : c.args.takers ≡ 1 = search rules in
-    let p = c.args.packet.now in
-    c.pass_first.ensures.judged xs h many (subst (λ n. AreLeftOut n c.args.services.now (pid_of p) xs) one (out c.if-all.false))
-    (if-some c.args.goes_on _ _ (λ stream k. subst (λ n. TakerGoesOn n c.args.services.now stream p) one k) (on c.if-all.false))
-
-pub returns-then-takers-eq1-clause-out : goal.returns-then-takers-eq1-clause-out
-returns-then-takers-eq1-clause-out g c = λ xs ts gs start ps h out on filed all is_held.
-    let one : c.args.takers ≡ 1 = search rules in
-    let p = c.args.packet.now in
-    c.pass_first.ensures.out xs ts gs start ps h (subst (λ n. AreLeftOut n c.args.services.now (pid_of p) xs) one (out c.if-all.false))
-    (if-some c.args.goes_on _ _ (λ stream k. subst (λ n. TakerGoesOn n c.args.services.now stream p) one k) (on c.if-all.false)) filed all is_held
+    let holds = g.K.PacketSink.holds c.pass_first.new.out start in
+    on-ok c.pass_first.result _ _ (λ k. (w.gone c.pass_first.new.services k.0, subst (λ l. holds (ps ++ l)) (sym w.put) k.1))
+    (c.pass_first.ensures.out w.ys w.us w.hs start ps w.settled alone w.filed w.all is_held)

@@ -60,4 +60,4 @@ returns-clause-out g c = λ xs ts gs start ps h may filed all is_held.
 
 pub returns-clause-alone : goal.returns-clause-alone
 returns-clause-alone g c =
-    IfOk-weaker c.settle_alone.result _ _ (λ settled on. if-some settled.goes_on _ _ (λ stream by. ((λ one. by), (λ bit. absurd (cc)))) on) c.settle_alone.ensures.alone
+    IfOk-weaker c.settle_alone.result _ _ (λ settled on. on) c.settle_alone.ensures.alone

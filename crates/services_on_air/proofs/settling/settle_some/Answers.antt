@@ -1,15 +1,15 @@
-use Rattle.std.proofs.Common.{rules, ◌≡◌, ◌++◌, length, refl, sym, subst, ◌∙◌}
+use Rattle.std.proofs.Common.{rules, ◌≡◌, ◌++◌, [], length, refl, sym, subst, ◌∙◌}
 use Rattle.std.proofs.lemmas.List.{append-nil}
 use Rattle.ts_packet.specs.Fields.{pid_of}
 use Rattle.chain_services.specs.Owners.{IsShifted}
 use Rattle.chain_services.specs.Serving.{FiledAs}
-use Rattle.chain_services.proofs.ShiftLemmas.{if-ok}
+use Rattle.chain_services.proofs.ShiftLemmas.{if-ok, whole-of}
 use Rattle.services_on_air.specs.Airing.{nexts}
 use Rattle.services_on_air.specs.Standing.{AllStand}
 use Rattle.services_on_air.specs.Serving.{AllGone}
 use Rattle.services_on_air.specs.Owners.{MayAllStay, AreLeftOut, TakerGoesOn}
 use Rattle.services_on_air.proofs.StayLemmas.{all-stay, stay-gone}
-use Rattle.services_on_air.proofs.FrontLemmas.{behind-settled, gone-behind-settled, whole-of, fewer-behind, on-ok, if-some, none-said, taker-behind}
+use Rattle.services_on_air.proofs.FrontLemmas.{behind-settled, gone-behind-settled, fewer-behind, on-ok, if-both-ok, if-both-some, none-said, taker-behind}
 use Rattle.services_on_air.proofs.settling.settle_some.Goals as goal
 
 pub returns-clause-stands : goal.returns-clause-stands
@@ -189,21 +189,24 @@ returns-then-shift-eq1-clause-out g c = λ xs ts gs start ps h may filed all is_
 pub returns-then-shift-eq1-clause-alone : goal.returns-then-shift-eq1-clause-alone
 returns-then-shift-eq1-clause-alone g c =
     let front = c.split_at_mut-services.result.0.now in
-    let left = c.shift_of-shift.result.takers in
-    let shifted = subst (λ k. IsShifted k left c.args.takers) (sym c.split_at_mut-services.ensures.front_len) c.shift_of-shift.ensures.shifted in
-    let one : left ≡ 1 = search rules in
-    let new = c.settle_first-then-shift-eq1.new.services in
-    if-ok c.settle_first-then-shift-eq1.result _ _ (λ settled on. if-some settled.goes_on _ _ (λ stream k. taker-behind front new left c.args.takers stream c.args.next.packet.now shifted one k) on)
-    c.settle_first-then-shift-eq1.ensures.alone
+    let many = c.split_at_mut-services.ensures.front_len in
+    let n = c.shift_of-shift.result.count in
+    let one : c.shift_of-shift.result.takers ≡ 1 = search rules in
+    let shifted = subst (λ left. IsShifted n left c.args.takers) one c.shift_of-shift.ensures.shifted in
+    let first = c.settle_first-then-shift-eq1 in
+    let p = c.args.next.packet.now in
+    if-both-ok first.result _ _ _ (λ settled counts goes. if-both-some settled.goes_on _ _ _
+    (λ alone e on. taker-behind front first.new.services c.args.takers alone p (many ∙ sym e) (subst (λ k. IsShifted k 1 c.args.takers) (sym e) shifted) on) counts goes)
+    first.ensures.count first.ensures.alone
 
 pub returns-clause-alone : goal.returns-clause-alone
 returns-clause-alone g c =
     let now = c.split_at_mut-services.result.0.now ++ c.settle_open-2.new.services in
-    if-ok c.settle_open-2.result _ _ (λ settled none. none-said settled.goes_on (λ stream. TakerGoesOn c.args.takers now stream c.args.next.packet.now) none) c.settle_open-2.ensures.none
+    if-ok c.settle_open-2.result _ _ (λ settled none. none-said settled.goes_on (λ alone. TakerGoesOn c.args.takers alone now c.args.next.packet.now) none) c.settle_open-2.ensures.none
 
 pub returns-then-all-clause-alone : goal.returns-then-all-clause-alone
 returns-then-all-clause-alone g c =
-    if-ok c.settle_open.result _ _ (λ settled none. none-said settled.goes_on (λ stream. TakerGoesOn c.args.takers c.settle_open.new.services stream c.args.next.packet.now) none) c.settle_open.ensures.none
+    if-ok c.settle_open.result _ _ (λ settled none. none-said settled.goes_on (λ alone. TakerGoesOn c.args.takers alone c.settle_open.new.services c.args.next.packet.now) none) c.settle_open.ensures.none
 
 pub returns-then-takers-eq1-clause-stands : goal.returns-then-takers-eq1-clause-stands
 returns-then-takers-eq1-clause-stands g c = λ xs h many may.
@@ -230,5 +233,8 @@ returns-then-takers-eq1-clause-out g c = λ xs ts gs start ps h may filed all is
 pub returns-then-takers-eq1-clause-alone : goal.returns-then-takers-eq1-clause-alone
 returns-then-takers-eq1-clause-alone g c =
     let one : c.args.takers ≡ 1 = search rules in
-    if-ok c.settle_first.result _ _ (λ settled on. if-some settled.goes_on _ _ (λ stream k. subst (λ n. TakerGoesOn n c.settle_first.new.services stream c.args.next.packet.now) (sym one) k) on)
-    c.settle_first.ensures.alone
+    let first = c.settle_first in
+    let p = c.args.next.packet.now in
+    if-both-ok first.result _ _ _ (λ settled counts goes. if-both-some settled.goes_on _ _ _
+    (λ alone e on. taker-behind [] first.new.services c.args.takers alone p (sym e) (subst (λ k. IsShifted k 1 c.args.takers) (sym e) (sym one)) on) counts goes)
+    first.ensures.count first.ensures.alone

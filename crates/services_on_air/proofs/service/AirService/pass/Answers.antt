@@ -3,7 +3,7 @@ use Rattle.services_on_air.specs.Histories.{HasGone, gone_on, put_own, aired_as}
 use Rattle.services_on_air.proofs.service.AirService.pass.Goals as goal
 
 pub returns-in-Some-clause-stands : goal.returns-in-Some-clause-stands
-returns-in-Some-clause-stands g c = λ a h. c.pass_alone.ensures.stands a h c.in-Some.ensures.alone
+returns-in-Some-clause-stands g c = λ a h. c.pass_alone.ensures.stands a h c.in-Some.ensures.judged c.in-Some.ensures.alone
 
 pub returns-in-Some-clause-out : goal.returns-in-Some-clause-out
 returns-in-Some-clause-out g c = λ t gone start ps filed h is_held.

@@ -11,18 +11,18 @@ use Rattle.services_on_air.proofs.KeptLemmas.{kept-elsewhere}
 use Rattle.services_on_air.proofs.service.AirService.pass_alone.Goals as goal
 
 pub returns-in-Ok-clause-stands : goal.returns-in-Ok-clause-stands
-returns-in-Ok-clause-stands g c = λ a h by.
+returns-in-Ok-clause-stands g c = λ a h judges by.
     let s = c.args.self.now in
     let p = c.args.packet.now in
     let steps = h.followed.steps in
     let alone = by.alone a.config steps h.followed.injector in
     let on = alone.goes_on in
-    let stands = stands-behind s _ p p a h (is-itself s p a h c.requires.judged) c.go_on.ensures.config refl refl refl refl (c.go_on.ensures.injector a.config steps alone h.followed.injector) in (
+    let stands = stands-behind s _ p p a h (is-itself s p a h judges) c.go_on.ensures.config refl refl refl refl (c.go_on.ensures.injector a.config steps alone h.followed.injector) in (
       stands,
       record {
         own = c.alone.ensures.own ∙ owns-is s p a h true (owned_off_map (Some a.config.program) p (packets_in steps) on.elsewhere.map (Some c.args.stream) on.here);
-        unjudged = c.alone.ensures.unjudged ∙ sym c.requires.judged ∙ leaves-is s p a h;
-        learns = c.alone.ensures.learns ∙ learns-none a p steps on.elsewhere (before-is s p a h) (behind-is s p a h c.requires.judged);
+        unjudged = c.alone.ensures.unjudged ∙ sym judges ∙ leaves-is s p a h;
+        learns = c.alone.ensures.learns ∙ learns-none a p steps on.elsewhere (before-is s p a h) (behind-is s p a h judges);
       },
     )
 

@@ -1,30 +1,31 @@
-use Rattle.services_on_air.proofs.PassLemmas.{stands-next}
-use Rattle.std.proofs.Common.{◌∷◌, ◌++◌, ap, ◌∙◌, subst, sym}
+use Rattle.std.proofs.Common.{◌∷◌, ◌++◌, ◌∙◌, subst, sym}
+use Rattle.std.specs.Prelude.{IfSome}
 use Rattle.service_laws.specs.Services.{configs_of}
 use Rattle.chain_engine.specs.Runs.{Exchanged}
 use Rattle.chain_engine.specs.declared.talk.Talk.{Talk}
-use Rattle.services_on_air.specs.Serving.{DeskGone}
 use Rattle.services_on_air.specs.Standing.{StillTold, StillGoesOn}
 use Rattle.services_on_air.specs.declared.desk.AirDesk.{AirDesk}
-use Rattle.services_on_air.proofs.AllLemmas.{filed-long, stays-gone}
+use Rattle.services_on_air.proofs.AllLemmas.{filed-long}
 use Rattle.services_on_air.proofs.services.AirServices.pass.Goals as goal
 
-pub returns-in-Ok-pass_settled-clause-stands : goal.returns-in-Ok-pass_settled-clause-stands
-returns-in-Ok-pass_settled-clause-stands g c = λ cs past h many.
+pub returns-in-Ok-go_on-clause-stands : goal.returns-in-Ok-go_on-clause-stands
+returns-in-Ok-go_on-clause-stands g c = λ cs past h many.
     let p = c.args.packet.now in
+    let takers = c.takers-takers.result in
+    let alone = c.in-Some.alone in
+    let goes = subst (λ o. IfSome o (λ one. StillGoesOn c.settle.new.self.desk takers one p)) c.in-Some.is c.in-Ok.ensures.alone in
     let settled = c.in-Ok.ensures.stands cs past h many in
     let quiet = c.hear.ensures.quiet cs p past settled in
-    let told : StillTold c.hear.new.self.desk c.takers-takers.result p = λ still. subst (λ (d : AirDesk g.row.M.Denot). StillTold d c.takers-takers.result p) (sym (quiet still)) c.in-Ok.ensures.told still in
-    let on : StillGoesOn c.hear.new.self.desk c.takers-takers.result c.in-Ok.goes_on p = λ still. subst (λ (d : AirDesk g.row.M.Denot). StillGoesOn d c.takers-takers.result c.in-Ok.goes_on p) (sym (quiet still)) c.in-Ok.ensures.alone still in
-    let passed = c.in-Ok-pass_settled.ensures.stands cs past (c.hear.ensures.stands cs p past settled) many told on in
-    let counted = c.count.ensures in
-    let parted = c.part.ensures in
-    stands-next c.pass_settled.new.self c.count.new.self c.part.new.self cs p past c.in-Ok-pass_settled.passed passed counted.packets counted.unjudged counted.others.0 counted.others.1
-    parted.all parted.owners parted.judged parted.others.0 parted.others.1 parted.others.2
+    let told : StillTold c.hear.new.self.desk takers p = λ still. subst (λ (d : AirDesk g.row.M.Denot). StillTold d takers p) (sym (quiet still)) c.in-Ok.ensures.told still in
+    let on : StillGoesOn c.hear.new.self.desk takers alone p = λ still. subst (λ (d : AirDesk g.row.M.Denot). StillGoesOn d takers alone p) (sym (quiet still)) goes still in
+    c.passed.ensures.stands cs past (c.in-Ok-go_on.ensures.stands cs past (c.hear.ensures.stands cs p past settled) many told on)
 
-pub returns-in-Ok-pass_settled-clause-out : goal.returns-in-Ok-pass_settled-clause-out
-returns-in-Ok-pass_settled-clause-out g c = λ ts past before start first apart stood filed h.
+pub returns-in-Ok-go_on-clause-out : goal.returns-in-Ok-go_on-clause-out
+returns-in-Ok-go_on-clause-out g c = λ ts past before start first apart stood filed h.
     let p = c.args.packet.now in
+    let takers = c.takers-takers.result in
+    let alone = c.in-Some.alone in
+    let goes = subst (λ o. IfSome o (λ one. StillGoesOn c.settle.new.self.desk takers one p)) c.in-Some.is c.in-Ok.ensures.alone in
     let cs = configs_of ts in
     let many = filed-long c.args.libraries.now ts filed in
     let x = Exchanged g.U.Automation.exchanges g.U.Automation.failures first in
@@ -34,18 +35,47 @@ returns-in-Ok-pass_settled-clause-out g c = λ ts past before start first apart 
     let before_heard = c.in-Ok.ensures.stands cs past stood many in
     let st = c.hear.ensures.stands cs p past before_heard in
     let quiet = c.hear.ensures.quiet cs p past before_heard in
-    let told : StillTold c.hear.new.self.desk c.takers-takers.result p = λ still. subst (λ (d : AirDesk g.row.M.Denot). StillTold d c.takers-takers.result p) (sym (quiet still)) c.in-Ok.ensures.told still in
-    let on : StillGoesOn c.hear.new.self.desk c.takers-takers.result c.in-Ok.goes_on p = λ still. subst (λ (d : AirDesk g.row.M.Denot). StillGoesOn d c.takers-takers.result c.in-Ok.goes_on p) (sym (quiet still)) c.in-Ok.ensures.alone still in
+    let told : StillTold c.hear.new.self.desk takers p = λ still. subst (λ (d : AirDesk g.row.M.Denot). StillTold d takers p) (sym (quiet still)) c.in-Ok.ensures.told still in
+    let on : StillGoesOn c.hear.new.self.desk takers alone p = λ still. subst (λ (d : AirDesk g.row.M.Denot). StillGoesOn d takers alone p) (sym (quiet still)) goes still in
     let here = subst (λ l. g.K.PacketSink.holds c.settle.new.out start (before ++ l)) (sym heard.same) ahead in
-    let (gone, out) = c.in-Ok-pass_settled.ensures.out ts past before heard.takes heard.rs start st filed heard.heard told on here in
-    let counted = c.count.ensures.others in
-    let parted = c.part.ensures in
-    let talk = parted.others.0 ∙ counted.0 in
+    let (gone, out) = c.in-Ok-go_on.ensures.out ts past before heard.takes heard.rs start st filed heard.heard told on here in
     record {
       takes = heard.takes;
       rs = heard.rs;
-      gone = stays-gone c.pass_settled.new.self c.part.new.self ts (p ∷ past) heard.takes heard.rs talk (parted.counts ∙ ap (λ (d : AirDesk g.row.M.Denot). d.counts) counted.1)
-          (λ gs d. parted.gone ts gs (subst (λ (w : AirDesk g.row.M.Denot). DeskGone w ts gs) (sym counted.1) d)) gone;
-      exchanges = subst (λ (w : Talk g.row.M.Denot). x c.hear.new.automation w.end heard.takes heard.rs) (sym (talk ∙ c.pass_settled.ensures.talk)) heard.exchanges;
+      gone = c.passed.ensures.gone ts (p ∷ past) heard.takes heard.rs gone;
+      exchanges = subst (λ (w : Talk g.row.M.Denot). x c.hear.new.automation w.end heard.takes heard.rs) (sym (c.passed.ensures.talk ∙ c.go_on.ensures.talk)) heard.exchanges;
+      out = out;
+    }
+
+pub returns-in-Ok-pass_settled-clause-stands : goal.returns-in-Ok-pass_settled-clause-stands
+returns-in-Ok-pass_settled-clause-stands g c = λ cs past h many.
+    let p = c.args.packet.now in
+    let takers = c.takers-takers.result in
+    let settled = c.in-Ok.ensures.stands cs past h many in
+    let quiet = c.hear.ensures.quiet cs p past settled in
+    let told : StillTold c.hear.new.self.desk takers p = λ still. subst (λ (d : AirDesk g.row.M.Denot). StillTold d takers p) (sym (quiet still)) c.in-Ok.ensures.told still in
+    c.passed-in-Ok-pass_settled.ensures.stands cs past (c.in-Ok-pass_settled.ensures.stands cs past (c.hear.ensures.stands cs p past settled) many told)
+
+pub returns-in-Ok-pass_settled-clause-out : goal.returns-in-Ok-pass_settled-clause-out
+returns-in-Ok-pass_settled-clause-out g c = λ ts past before start first apart stood filed h.
+    let p = c.args.packet.now in
+    let takers = c.takers-takers.result in
+    let cs = configs_of ts in
+    let many = filed-long c.args.libraries.now ts filed in
+    let x = Exchanged g.U.Automation.exchanges g.U.Automation.failures first in
+    let (settled, ahead) = c.in-Ok.ensures.out ts past before h.takes h.rs start stood filed h.gone h.out in
+    let came = subst (λ (w : Talk g.row.M.Denot). x c.args.automation.now w.end h.takes h.rs) (sym c.settle.ensures.talk) h.exchanges in
+    let heard = c.hear.ensures.heard ts p past h.takes h.rs first apart settled came in
+    let before_heard = c.in-Ok.ensures.stands cs past stood many in
+    let st = c.hear.ensures.stands cs p past before_heard in
+    let quiet = c.hear.ensures.quiet cs p past before_heard in
+    let told : StillTold c.hear.new.self.desk takers p = λ still. subst (λ (d : AirDesk g.row.M.Denot). StillTold d takers p) (sym (quiet still)) c.in-Ok.ensures.told still in
+    let here = subst (λ l. g.K.PacketSink.holds c.settle.new.out start (before ++ l)) (sym heard.same) ahead in
+    let (gone, out) = c.in-Ok-pass_settled.ensures.out ts past before heard.takes heard.rs start st filed heard.heard told here in
+    record {
+      takes = heard.takes;
+      rs = heard.rs;
+      gone = c.passed-in-Ok-pass_settled.ensures.gone ts (p ∷ past) heard.takes heard.rs gone;
+      exchanges = subst (λ (w : Talk g.row.M.Denot). x c.hear.new.automation w.end heard.takes heard.rs) (sym (c.passed-in-Ok-pass_settled.ensures.talk ∙ c.pass_settled.ensures.talk)) heard.exchanges;
       out = out;
     }

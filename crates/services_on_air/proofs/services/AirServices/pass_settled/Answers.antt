@@ -1,8 +1,8 @@
 use Rattle.std.proofs.Common.{rules, ◌≡◌, false, length, refl, sym, subst, ◌∙◌}
 use Rattle.std.proofs.lemmas.List.{with_items_is}
-use Rattle.std.specs.Prelude.{slice_index_or, IfSome}
+use Rattle.std.specs.Prelude.{slice_index_or}
 use Rattle.ts_packet.specs.Fields.{pid_of}
-use Rattle.services_on_air.specs.Owners.{AllJudged, AreLeftOut, TakerGoesOn}
+use Rattle.services_on_air.specs.Owners.{AllJudged, AreLeftOut}
 use Rattle.services_on_air.proofs.OwnerLemmas.{left-all, owners-behind}
 use Rattle.services_on_air.specs.Airing.{nexts, airings}
 use Rattle.services_on_air.specs.Standing.{AllStand, AllSettled}
@@ -17,7 +17,7 @@ use Rattle.services_on_air.proofs.AllLemmas.{filed-long, own-put, none-put, pass
 use Rattle.services_on_air.proofs.services.AirServices.pass_settled.Goals as goal
 
 pub returns-then-passed-clause-stands : goal.returns-then-passed-clause-stands
-returns-then-passed-clause-stands g c = λ cs past h many told on.
+returns-then-passed-clause-stands g c = λ cs past h many told.
     let v = c.args.self.now.desk.services in
     let kept : length c.pass_some.new.services ≡ v.len = search rules in
     let p = c.args.packet.now in
@@ -28,10 +28,9 @@ returns-then-passed-clause-stands g c = λ cs past h many told on.
     let all = c.takes_all-all in
     let left = left-all desk.owners takers (pid_of p) desk.asks_all all.result c.as_mut_slice-services.result.now xs told all.ensures.asked all.ensures.told
     (λ quiet below. subst (λ l. AreLeftOut (slice_index_or desk.owners (pid_of p) 0) l (pid_of p) xs) slice (h.left quiet below)) in
-    let by : c.takes_all-all.result ≡ false → IfSome c.args.goes_on (λ stream. TakerGoesOn takers c.as_mut_slice-services.result.now stream p) = λ none. subst (λ l. IfSome c.args.goes_on (λ stream. TakerGoesOn takers l stream p)) slice (on (c.takes_all-all.ensures.asked none)) in
     let settled = subst (λ l. AllSettled l p xs) slice h.all in
     let long = many ∙ sym (nexts-long cs p past) in
-    let both = c.in-Ok.ensures.stands xs settled long left by in
+    let both = c.in-Ok.ensures.stands xs settled long left in
     record {
       ts = h.ts;
       n = h.n;
@@ -42,11 +41,11 @@ returns-then-passed-clause-stands g c = λ cs past h many told on.
       unjudged = h.unjudged;
       is = both.1;
       owners = λ still. owners-behind desk.owners xs (sym both.1.learns ∙ still) h.owners;
-      judged = λ quiet. subst AllJudged (sym (with_items_is v c.pass_some.new.services kept)) (c.in-Ok.ensures.judged xs settled long left by quiet);
+      judged = λ quiet. subst AllJudged (sym (with_items_is v c.pass_some.new.services kept)) (c.in-Ok.ensures.judged xs settled long left quiet);
     }
 
 pub returns-in-Ok-put-clause-stands : goal.returns-in-Ok-put-clause-stands
-returns-in-Ok-put-clause-stands g c = λ cs past h many told on.
+returns-in-Ok-put-clause-stands g c = λ cs past h many told.
     let v = c.args.self.now.desk.services in
     let kept : length c.pass_some.new.services ≡ v.len = search rules in
     let p = c.args.packet.now in
@@ -57,10 +56,9 @@ returns-in-Ok-put-clause-stands g c = λ cs past h many told on.
     let all = c.takes_all-all in
     let left = left-all desk.owners takers (pid_of p) desk.asks_all all.result c.as_mut_slice-services.result.now xs told all.ensures.asked all.ensures.told
     (λ quiet below. subst (λ l. AreLeftOut (slice_index_or desk.owners (pid_of p) 0) l (pid_of p) xs) slice (h.left quiet below)) in
-    let by : c.takes_all-all.result ≡ false → IfSome c.args.goes_on (λ stream. TakerGoesOn takers c.as_mut_slice-services.result.now stream p) = λ none. subst (λ l. IfSome c.args.goes_on (λ stream. TakerGoesOn takers l stream p)) slice (on (c.takes_all-all.ensures.asked none)) in
     let settled = subst (λ l. AllSettled l p xs) slice h.all in
     let long = many ∙ sym (nexts-long cs p past) in
-    let both = c.in-Ok.ensures.stands xs settled long left by in
+    let both = c.in-Ok.ensures.stands xs settled long left in
     record {
       ts = h.ts;
       n = h.n;
@@ -71,11 +69,11 @@ returns-in-Ok-put-clause-stands g c = λ cs past h many told on.
       unjudged = h.unjudged;
       is = both.1;
       owners = λ still. owners-behind desk.owners xs (sym both.1.learns ∙ still) h.owners;
-      judged = λ quiet. subst AllJudged (sym (with_items_is v c.pass_some.new.services kept)) (c.in-Ok.ensures.judged xs settled long left by quiet);
+      judged = λ quiet. subst AllJudged (sym (with_items_is v c.pass_some.new.services kept)) (c.in-Ok.ensures.judged xs settled long left quiet);
     }
 
 pub returns-then-passed-clause-out : goal.returns-then-passed-clause-out
-returns-then-passed-clause-out g c = λ ts past before takes rs start st filed h told on is_held.
+returns-then-passed-clause-out g c = λ ts past before takes rs start st filed h told is_held.
     let old = c.args.self.now in
     let v = old.desk.services in
     let kept : length c.pass_some.new.services ≡ v.len = search rules in
@@ -88,20 +86,19 @@ returns-then-passed-clause-out g c = λ ts past before takes rs start st filed h
     let gs = gones_ahead ts ys steps in
     let slice = sym c.as_mut_slice-services.ensures.value in
     let takers = c.args.takers in
-    let by : c.takes_all-all.result ≡ false → IfSome c.args.goes_on (λ stream. TakerGoesOn takers c.as_mut_slice-services.result.now stream p) = λ none. subst (λ l. IfSome c.args.goes_on (λ stream. TakerGoesOn takers l stream p)) slice (on (c.takes_all-all.ensures.asked none)) in
     let settled = subst (λ l. AllSettled l p ys) slice st.all in
     let all = c.takes_all-all in
     let left = left-all old.desk.owners takers (pid_of p) old.desk.asks_all all.result c.as_mut_slice-services.result.now ys told all.ensures.asked all.ensures.told
     (λ quiet below. subst (λ l. AreLeftOut (slice_index_or old.desk.owners (pid_of p) 0) l (pid_of p) ys) slice (st.left quiet below)) in
-    let stood = c.in-Ok.ensures.stands ys settled (filed-long c.args.libraries.now ts filed ∙ sym (nexts-long cs p past)) left by in
-    let both = c.in-Ok.ensures.out ys ts gs start (before ++ ended) settled left by filed (subst (λ l. AllGone l ts gs) slice h.desk.all) is_held in
+    let stood = c.in-Ok.ensures.stands ys settled (filed-long c.args.libraries.now ts filed ∙ sym (nexts-long cs p past)) left in
+    let both = c.in-Ok.ensures.out ys ts gs start (before ++ ended) settled left filed (subst (λ l. AllGone l ts gs) slice h.desk.all) is_held in
     let sent = subst (λ l. holds ((before ++ ended) ++ l)) (puts-on ts ys p steps ∙ own-put ts p ys steps (sym stood.1.own ∙ c.if-passed.true)) both.1 in (
       passed-gone old _ ts p past takes rs h refl refl refl st.all (subst (λ l. AllGone l ts (gones_on ts p ys gs)) (sym (with_items_is v c.pass_some.new.services kept)) both.0),
       subst (λ l. holds (before ++ l)) (passed-air ts p past takes rs) (subst holds (append_assoc before ended (put_for_all ts p ys steps)) sent),
     )
 
 pub returns-in-Ok-put-clause-out : goal.returns-in-Ok-put-clause-out
-returns-in-Ok-put-clause-out g c = λ ts past before takes rs start st filed h told on is_held.
+returns-in-Ok-put-clause-out g c = λ ts past before takes rs start st filed h told is_held.
     let old = c.args.self.now in
     let v = old.desk.services in
     let kept : length c.pass_some.new.services ≡ v.len = search rules in
@@ -115,13 +112,12 @@ returns-in-Ok-put-clause-out g c = λ ts past before takes rs start st filed h t
     let gs = gones_ahead ts ys steps in
     let slice = sym c.as_mut_slice-services.ensures.value in
     let takers = c.args.takers in
-    let by : c.takes_all-all.result ≡ false → IfSome c.args.goes_on (λ stream. TakerGoesOn takers c.as_mut_slice-services.result.now stream p) = λ none. subst (λ l. IfSome c.args.goes_on (λ stream. TakerGoesOn takers l stream p)) slice (on (c.takes_all-all.ensures.asked none)) in
     let settled = subst (λ l. AllSettled l p ys) slice st.all in
     let all = c.takes_all-all in
     let left = left-all old.desk.owners takers (pid_of p) old.desk.asks_all all.result c.as_mut_slice-services.result.now ys told all.ensures.asked all.ensures.told
     (λ quiet below. subst (λ l. AreLeftOut (slice_index_or old.desk.owners (pid_of p) 0) l (pid_of p) ys) slice (st.left quiet below)) in
-    let stood = c.in-Ok.ensures.stands ys settled (filed-long c.args.libraries.now ts filed ∙ sym (nexts-long cs p past)) left by in
-    let both = c.in-Ok.ensures.out ys ts gs start (before ++ ended) settled left by filed (subst (λ l. AllGone l ts gs) slice h.desk.all) is_held in
+    let stood = c.in-Ok.ensures.stands ys settled (filed-long c.args.libraries.now ts filed ∙ sym (nexts-long cs p past)) left in
+    let both = c.in-Ok.ensures.out ys ts gs start (before ++ ended) settled left filed (subst (λ l. AllGone l ts gs) slice h.desk.all) is_held in
     let put = put_by_each ts p ys steps in
     let more = c.in-Ok-put.ensures.ok start ((before ++ ended) ++ put) (subst (λ l. mid ((before ++ ended) ++ l)) (puts-on ts ys p steps) both.1) in
     let sent = subst holds (append_assoc (before ++ ended) put (p ∷ [])) more in

@@ -1,6 +1,5 @@
-use Rattle.std.specs.Prelude.{IfSome}
 use Rattle.services_on_air.specs.Owners.{TakerGoesOn}
-use Rattle.services_on_air.specs.declared.service.AirService.{AirService}
+use Rattle.services_on_air.proofs.FrontLemmas.{if-some}
 use Rattle.std.proofs.Common.{rules, ◌≡◌, List, length, sym, ap, subst, ◌∙◌}
 use Rattle.std.proofs.lemmas.List.{with_items_is}
 use Rattle.ts_packet.specs.Fields.{pid_of}
@@ -84,9 +83,10 @@ pub returns-in-Ok-clause-told : goal.returns-in-Ok-clause-told
 returns-in-Ok-clause-told g c = settled-told _ c.settled.new.self c.in-Ok.settled.is_anew c.args.takers c.args.next.packet.now c.settled.ensures.anew c.settled.ensures.same c.requires.takers
 
 pub returns-in-Ok-clause-alone : goal.returns-in-Ok-clause-alone
-returns-in-Ok-clause-alone g c = λ quiet.
+returns-in-Ok-clause-alone g c =
     let v = c.args.self.now.desk.services in
     let kept : length c.settle_some.new.services ≡ v.len = search rules in
     let items = sym (with_items_is v c.settle_some.new.services kept) in
-    let goes : List AirService → Type 0 = λ l. IfSome c.in-Ok.settled.goes_on (λ stream. TakerGoesOn c.args.takers l stream c.args.next.packet.now) in
-    subst (λ w. goes w.items) (sym c.settled.ensures.others.0) (subst goes items c.in-Ok.ensures.alone)
+    let p = c.args.next.packet.now in
+    if-some c.in-Ok.settled.goes_on _ _ (λ alone on quiet.
+    subst (λ w. TakerGoesOn c.args.takers alone w.items p) (sym c.settled.ensures.others.0) (subst (λ l. TakerGoesOn c.args.takers alone l p) items on)) c.in-Ok.ensures.alone
