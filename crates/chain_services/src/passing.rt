@@ -476,7 +476,7 @@ impl<M: Allocator> Desk<M> {
         }
     }
 
-    /// Does what [`Desk::pass_through`] does. It stands by itself, so that a packet that no service takes does not pay for its room.
+    /// Passes a packet on through those services that take it, one after another.
     ///
     /// # Errors
     ///
@@ -533,6 +533,52 @@ impl<M: Allocator> Desk<M> {
         }
     }
 
+    /// Does what [`Desk::pass_through`] does. It stands by itself, so that a packet that no service takes does not pay for its room.
+    ///
+    /// # Errors
+    ///
+    /// As for [`pass_each`].
+    #[inline(never)]
+    fn pass_taken<K: PacketSink>(
+        &mut self,
+        all: bool,
+        takers: u8,
+        packet: &Packet,
+        libraries: &[AdLibrary],
+        out: &mut K,
+    ) -> Result<Passed, FeedFault>
+        ensures leads { K.leads out.old out.new }
+        ensures ok { (ts : List ServiceTerms) (steps : List Step) (start : Option (List ℕ)) (ps : List (List ℕ))
+            → FiledAs libraries.now ts → AllServe (services_in self.old) ts steps
+            → (all ≡ false → AreSkipped takers ts packet.now steps) → K.holds out.old start ps
+            → IfOk result (λ passed. PassedEach passed.is_own passed.learns (services_in self.new) ts packet.now steps
+            (λ l. K.holds out.new start (ps ++ l))) }
+        ensures err { (ts : List ServiceTerms) (steps : List Step) (start : Option (List ℕ)) (ps : List (List ℕ))
+            → FiledAs libraries.now ts → AllServe (services_in self.old) ts steps
+            → (all ≡ false → AreSkipped takers ts packet.now steps) → K.holds out.old start ps
+            → IfErr result (λ f. FailedEach f ts packet.now steps (parts_of ts packet.now steps)
+            (λ l. K.holds out.new start (ps ++ l)) (λ put q x. K.fails out.new start (ps ++ put) q x)) }
+        ensures well { OnOk result (WentWell (K.counts out.old) (K.counts out.new)) }
+        ensures blamed { IfErr result (λ f. OutputBlamed (RunFault.Feed f)
+            (K.counts out.old) (K.counts out.new) (K.is_full out.new)) }
+        ensures counts { self.new.counts ≡ self.old.counts }
+        ensures owners { self.new.owners ≡ self.old.owners }
+    {
+        if let Some(alone) = self.goes_on(all, takers, libraries, packet) {
+            return match self.go_on(alone, packet, libraries, out) {
+                Ok(()) => Ok(Passed {
+                    is_own: true,
+                    learns: false,
+                }),
+                Err(fault) => Err(fault),
+            };
+        }
+        match self.pass_to_takers(all, takers, packet, libraries, out) {
+            Ok(passed) => Ok(passed),
+            Err(fault) => Err(fault),
+        }
+    }
+
     /// Passes a packet on through the services that take it, of the first one and the others: all, or those whose bits are set.
     ///
     /// # Errors
@@ -571,19 +617,7 @@ impl<M: Allocator> Desk<M> {
                 learns: false,
             });
         }
-        if let Some(alone) = self.goes_on(all, takers, libraries, packet) {
-            return match self.go_on(alone, packet, libraries, out) {
-                Ok(()) => Ok(Passed {
-                    is_own: true,
-                    learns: false,
-                }),
-                Err(fault) => Err(fault),
-            };
-        }
-        match self.pass_to_takers(all, takers, packet, libraries, out) {
-            Ok(passed) => Ok(passed),
-            Err(fault) => Err(fault),
-        }
+        self.pass_taken(all, takers, packet, libraries, out)
     }
 
     /// Passes a packet on: what the service sends on whose PIDs it is, or the packet alone. Whether more PIDs may be known of a service.

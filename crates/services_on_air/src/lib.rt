@@ -5,6 +5,7 @@
 
 mod desk;
 mod owners;
+mod passing;
 mod running;
 mod service;
 mod services;

@@ -24,6 +24,7 @@ ghost use Rattle.services_on_air.specs.Serving.{AddsOnAir, AirServicesBegin, Ser
 ghost use Rattle.services_on_air.specs.Serving.{HearsAll, RunsSoFar, air_behind, air_ahead, air_to_end};
 
 use crate::desk::AirDesk;
+use crate::passing::{go_on_first, pass_some};
 use crate::service::{AirService, Numbered, Passed};
 use crate::settling::settle_some;
 use crate::sharing::part_each;
@@ -32,8 +33,7 @@ use ad_library::AdLibrary;
 use arrayvec::ArrayVec;
 use chain_engine::{Automation, OutOfMemory, Talk, of_bytes};
 use chain_services::{
-    Alone, Owners, ServiceEvents, ServiceFault, ServiceReport, Services, leaves_out,
-    leaves_out_all, shift_of, takes_all,
+    Alone, Owners, ServiceEvents, ServiceFault, ServiceReport, Services, takes_all,
 };
 use injector::{MessageCounts, Requests};
 use on_air::AirReport;
@@ -71,203 +71,6 @@ fn add_services<M: Allocator>(
         Ok(()) => add_services(services, others),
         Err(_) => Err(OutOfMemory),
     }
-}
-
-/// Passes a packet on through a service, unless it is left out: it changes nothing of the service then.
-///
-/// # Errors
-///
-/// The sink's.
-#[inline(always)]
-fn pass_one<K: PacketSink>(
-    is_left_out: bool,
-    service: &mut AirService,
-    library: &AdLibrary,
-    packet: &Packet,
-    out: &mut K,
-) -> Result<Passed, PutFault>
-    ensures leads { K.leads out.old out.new }
-    ensures stands { (a : Airing) → IsSettled service.old packet.now a
-        → (is_left_out ≡ true → IsLeftOut service.old (pid_of packet.now) a)
-        → IfOk result (λ passed. AirStandsFor service.new a × IsPassed passed packet.now a) }
-    ensures left { (a : Airing) → (is_left_out ≡ true → IsLeftOut service.old (pid_of packet.now) a)
-        → IfOk result (λ passed. passed.has_left ≡ service.new.is_unjudged) }
-    ensures out { (a : Airing) (t : ServiceTerms) (g : Gone) (start : Option (List ℕ)) (ps : List (List ℕ))
-        → IsSettled service.old packet.now a → (is_left_out ≡ true → IsLeftOut service.old (pid_of packet.now) a)
-        → held library.now ≡ t.filed → HasGone service.old t g → K.holds out.old start ps
-        → IfOk result (λ passed. HasGone service.new t (gone_on t (aired_as packet.now service.old.is_unjudged) g)
-        × K.holds out.new start (ps ++ put_own passed.is_own t (aired_as packet.now service.old.is_unjudged) g)) }
-{
-    if is_left_out {
-        of_bytes(packet);
-        return Ok(Passed::beside());
-    }
-    service.pass(packet, library, out)
-}
-
-/// Passes a packet on through these services, each with its library: through all, or through those that take it, whose bits are set.
-///
-/// # Errors
-///
-/// The sink's.
-fn pass_each<K: PacketSink>(
-    all: bool,
-    takers: u8,
-    services: &mut [AirService],
-    libraries: &[AdLibrary],
-    packet: &Packet,
-    out: &mut K,
-) -> Result<Passed, PutFault>
-    ensures leads { K.leads out.old out.new }
-    ensures stands { (xs : List Airing) → AllSettled services.old packet.now xs → length libraries.now ≡ length xs
-        → (all ≡ false → AreLeftOut takers services.old (pid_of packet.now) xs)
-        → IfOk result (λ passed. AllStand services.new xs × ArePassed passed packet.now xs) }
-    ensures judged { (xs : List Airing) → AllSettled services.old packet.now xs → length libraries.now ≡ length xs
-        → (all ≡ false → AreLeftOut takers services.old (pid_of packet.now) xs)
-        → IfOk result (λ passed. passed.has_left ≡ false → AllJudged services.new) }
-    ensures out { (ys : List Airing) (ts : List ServiceTerms) (gs : List Gone) (start : Option (List ℕ)) (ps : List (List ℕ))
-        → AllSettled services.old packet.now ys → (all ≡ false → AreLeftOut takers services.old (pid_of packet.now) ys)
-        → FiledAs libraries.now ts → AllGone services.old ts gs → K.holds out.old start ps
-        → OnOk result (AllGone services.new ts (gones_on ts packet.now ys gs)
-        × K.holds out.new start (ps ++ puts_on ts packet.now ys gs)) }
-{
-    if leaves_out_all(all, takers) {
-        of_bytes(packet);
-        return Ok(Passed::beside());
-    }
-    let Some((service, others)) = services.split_first_mut() else {
-        return Ok(Passed::beside());
-    };
-    let Some((library, libraries)) = libraries.split_first() else {
-        return Ok(Passed::beside());
-    };
-    let one = match pass_one(leaves_out(all, takers), service, library, packet, out) {
-        Ok(one) => one,
-        Err(fault) => return Err(fault),
-    };
-    match pass_each(all, takers / 2, others, libraries, packet, out) {
-        Ok(others) => Ok(one.joined(others)),
-        Err(fault) => Err(fault),
-    }
-}
-
-/// Passes a packet on through the first of these services, which alone takes it. It looks at no other one, and so calls itself not.
-///
-/// # Errors
-///
-/// The sink's.
-#[inline(always)]
-fn pass_first<K: PacketSink>(
-    services: &mut [AirService],
-    libraries: &[AdLibrary],
-    packet: &Packet,
-    out: &mut K,
-) -> Result<Passed, PutFault>
-    ensures leads { K.leads out.old out.new }
-    ensures stands { (xs : List Airing) → AllSettled services.old packet.now xs → length libraries.now ≡ length xs
-        → AreLeftOut 1 services.old (pid_of packet.now) xs
-        → IfOk result (λ passed. AllStand services.new xs × ArePassed passed packet.now xs) }
-    ensures judged { (xs : List Airing) → AllSettled services.old packet.now xs → length libraries.now ≡ length xs
-        → AreLeftOut 1 services.old (pid_of packet.now) xs
-        → IfOk result (λ passed. passed.has_left ≡ false → AllJudged services.new) }
-    ensures out { (ys : List Airing) (ts : List ServiceTerms) (gs : List Gone) (start : Option (List ℕ)) (ps : List (List ℕ))
-        → AllSettled services.old packet.now ys → AreLeftOut 1 services.old (pid_of packet.now) ys
-        → FiledAs libraries.now ts → AllGone services.old ts gs → K.holds out.old start ps
-        → OnOk result (AllGone services.new ts (gones_on ts packet.now ys gs)
-        × K.holds out.new start (ps ++ puts_on ts packet.now ys gs)) }
-{
-    of_bytes(packet);
-    let Some((service, _others)) = services.split_first_mut() else {
-        return Ok(Passed::beside());
-    };
-    let Some((library, _behind)) = libraries.split_first() else {
-        return Ok(Passed::beside());
-    };
-    service.pass(packet, library, out)
-}
-
-/// Does what [`pass_first`] does, where the packet goes on alone for that service in the stream of this number.
-///
-/// # Errors
-///
-/// The sink's.
-#[inline(always)]
-fn go_on_first<K: PacketSink>(
-    stream: usize,
-    services: &mut [AirService],
-    libraries: &[AdLibrary],
-    packet: &Packet,
-    out: &mut K,
-) -> Result<Passed, PutFault>
-    requires { stream < 8 }
-    ensures leads { K.leads out.old out.new }
-    ensures stands { (xs : List Airing) → AllSettled services.old packet.now xs → length libraries.now ≡ length xs
-        → AreLeftOut 1 services.old (pid_of packet.now) xs
-        → FirstGoesOnAir services.old stream packet.now
-        → IfOk result (λ passed. AllStand services.new xs × ArePassed passed packet.now xs) }
-    ensures judged { (xs : List Airing) → AllSettled services.old packet.now xs → length libraries.now ≡ length xs
-        → AreLeftOut 1 services.old (pid_of packet.now) xs
-        → FirstGoesOnAir services.old stream packet.now
-        → IfOk result (λ passed. passed.has_left ≡ false → AllJudged services.new) }
-    ensures out { (ys : List Airing) (ts : List ServiceTerms) (gs : List Gone) (start : Option (List ℕ)) (ps : List (List ℕ))
-        → AllSettled services.old packet.now ys → AreLeftOut 1 services.old (pid_of packet.now) ys
-        → FirstGoesOnAir services.old stream packet.now
-        → FiledAs libraries.now ts → AllGone services.old ts gs → K.holds out.old start ps
-        → OnOk result (AllGone services.new ts (gones_on ts packet.now ys gs)
-        × K.holds out.new start (ps ++ puts_on ts packet.now ys gs)) }
-    ensures alone { IfOk result (λ passed. (passed.is_own ≡ true) × (passed.has_left ≡ false)) }
-{
-    of_bytes(packet);
-    let Some((service, _others)) = services.split_first_mut() else {
-        return Ok(Passed::alone());
-    };
-    let Some((library, _behind)) = libraries.split_first() else {
-        return Ok(Passed::alone());
-    };
-    service.pass_alone(stream, packet, library, out)
-}
-
-/// Does what [`pass_each`] does, and begins with the first of these services that takes the packet.
-///
-/// # Errors
-///
-/// The sink's.
-#[inline(always)]
-fn pass_some<K: PacketSink>(
-    all: bool,
-    takers: u8,
-    services: &mut [AirService],
-    libraries: &[AdLibrary],
-    packet: &Packet,
-    out: &mut K,
-) -> Result<Passed, PutFault>
-    ensures leads { K.leads out.old out.new }
-    ensures stands { (xs : List Airing) → AllSettled services.old packet.now xs → length libraries.now ≡ length xs
-        → (all ≡ false → AreLeftOut takers services.old (pid_of packet.now) xs)
-        → IfOk result (λ passed. AllStand services.new xs × ArePassed passed packet.now xs) }
-    ensures judged { (xs : List Airing) → AllSettled services.old packet.now xs → length libraries.now ≡ length xs
-        → (all ≡ false → AreLeftOut takers services.old (pid_of packet.now) xs)
-        → IfOk result (λ passed. passed.has_left ≡ false → AllJudged services.new) }
-    ensures out { (ys : List Airing) (ts : List ServiceTerms) (gs : List Gone) (start : Option (List ℕ)) (ps : List (List ℕ))
-        → AllSettled services.old packet.now ys → (all ≡ false → AreLeftOut takers services.old (pid_of packet.now) ys)
-        → FiledAs libraries.now ts → AllGone services.old ts gs → K.holds out.old start ps
-        → OnOk result (AllGone services.new ts (gones_on ts packet.now ys gs)
-        × K.holds out.new start (ps ++ puts_on ts packet.now ys gs)) }
-{
-    of_bytes(packet);
-    if leaves_out_all(all, takers) {
-        return Ok(Passed::beside());
-    }
-    if all {
-        return pass_each(all, takers, services, libraries, packet, out);
-    }
-    let shift = shift_of(takers, services.len().min(libraries.len()));
-    let (_, services) = services.split_at_mut(shift.count);
-    let (_, libraries) = libraries.split_at(shift.count);
-    if shift.takers == 1 {
-        return pass_first(services, libraries, packet, out);
-    }
-    pass_each(false, shift.takers, services, libraries, packet, out)
 }
 
 /// Puts what is left of the advertisements of these services, each with its library, and adds what became of their events.
@@ -617,6 +420,137 @@ impl<M: Allocator> AirServices<M> {
         self.part(passed.learns, takers, last, watch);
     }
 
+    /// The next packet, which no service takes, is settled for each of them as it stands.
+    #[inline(always)]
+    fn settle_none(&self, takers: u8, packet: &Packet)
+        requires pid { pid_of packet.now < 8192 }
+        requires takers { takers ≡ slice_index_or self.now.desk.owners (pid_of packet.now) 0 }
+        requires none { takers ≡ 0 }
+        requires quiet { self.now.desk.asks_all ≡ false }
+        ensures stands { (cs : List Config) (past : List (List ℕ)) → AirServicesStandFor self.now cs past → AreSettled self.now cs packet.now past }
+        ensures gone { (ts : List ServiceTerms) (past : List (List ℕ)) (takes : List Take) (rs : List Reply)
+            → AirServicesStandFor self.now (configs_of ts) past → ServicesGone self.now ts past takes rs
+            → ServicesSettled self.now ts packet.now past takes rs
+            × (air_behind ts past takes rs ≡ air_ahead ts packet.now past (steps_of (length rs) takes past)) }
+    {}
+
+    /// Puts the packet that is settled and that no service takes, where no message was judged since.
+    ///
+    /// # Errors
+    ///
+    /// The sink's.
+    #[inline(always)]
+    fn put_beside<K: PacketSink>(
+        &self,
+        takers: u8,
+        packet: &Packet,
+        out: &mut K,
+    ) -> Result<Passed, PutFault>
+        requires none { takers ≡ 0 }
+        requires quiet { self.now.desk.asks_all ≡ false }
+        ensures leads { K.leads out.old out.new }
+        ensures stands { (cs : List Config) (past : List (List ℕ)) → AreSettled self.now cs packet.now past
+            → StillTold self.now.desk takers packet.now → IfOk result (HavePassed self.now cs packet.now past) }
+        ensures out { (ts : List ServiceTerms) (past before : List (List ℕ)) (takes : List Take) (rs : List Reply) (start : Option (List ℕ))
+            → AreSettled self.now (configs_of ts) packet.now past → ServicesHeard self.now ts packet.now past takes rs
+            → StillTold self.now.desk takers packet.now
+            → K.holds out.old start (before ++ air_ahead ts packet.now past (steps_before (length rs) takes past))
+            → OnOk result (ServicesGone self.now ts (packet.now ∷ past) takes rs
+            × K.holds out.new start (before ++ air_behind ts (packet.now ∷ past) takes rs)) }
+    {
+        of_bytes(packet);
+        match out.put(packet) {
+            Ok(()) => Ok(Passed::beside()),
+            Err(fault) => Err(fault),
+        }
+    }
+
+    /// Passes the packet on that is settled, before which the automation was heard.
+    ///
+    /// # Errors
+    ///
+    /// The sink's.
+    #[inline(never)]
+    fn pass_heard<K: PacketSink, A: ServicesWatch>(
+        &mut self,
+        takers: u8,
+        next: Numbered<'_>,
+        libraries: &[AdLibrary],
+        out: &mut K,
+        watch: &mut A,
+    ) -> Result<(), PutFault>
+        ensures leads { K.leads out.old out.new }
+        ensures stands { (cs : List Config) (past : List (List ℕ)) → AreSettled self.old cs next.entry.packet.now past
+            → length libraries.now ≡ length cs → StillTold self.old.desk takers next.entry.packet.now
+            → OnOk result (AirServicesStandFor self.new cs (next.entry.packet.now ∷ past)) }
+        ensures out { (ts : List ServiceTerms) (past before : List (List ℕ)) (takes : List Take) (rs : List Reply) (start : Option (List ℕ))
+            → AreSettled self.old (configs_of ts) next.entry.packet.now past → FiledAs libraries.now ts
+            → ServicesHeard self.old ts next.entry.packet.now past takes rs
+            → StillTold self.old.desk takers next.entry.packet.now
+            → K.holds out.old start (before ++ air_ahead ts next.entry.packet.now past (steps_before (length rs) takes past))
+            → OnOk result (ServicesGone self.new ts (next.entry.packet.now ∷ past) takes rs
+            × K.holds out.new start (before ++ air_behind ts (next.entry.packet.now ∷ past) takes rs)) }
+        ensures talk { self.new.talk ≡ self.old.talk }
+    {
+        match self.pass_settled(takers, next.packet, libraries, out) {
+            Ok(passed) => {
+                self.passed(passed, takers, next, libraries, watch);
+                Ok(())
+            }
+            Err(fault) => Err(fault),
+        }
+    }
+
+    /// Does what [`AirServices::pass`] does for a packet that these take, or before which all are asked. It stands by itself, so that a packet that
+    /// no service takes does not pay for its room.
+    ///
+    /// # Errors
+    ///
+    /// The sink's.
+    #[inline(never)]
+    fn pass_taken<U: Automation, K: PacketSink, A: ServicesWatch>(
+        &mut self,
+        takers: u8,
+        next: Numbered<'_>,
+        automation: &mut U,
+        libraries: &[AdLibrary],
+        out: &mut K,
+        watch: &mut A,
+    ) -> Result<(), PutFault>
+        requires pid { pid_of next.packet.now < 8192 }
+        requires takers { takers ≡ slice_index_or self.old.desk.owners (pid_of next.packet.now) 0 }
+        ensures leads { K.leads out.old out.new }
+        ensures stands { (cs : List Config) (past : List (List ℕ)) → AirServicesStandFor self.old cs past → length libraries.now ≡ length cs
+            → OnOk result (AirServicesStandFor self.new cs (next.entry.packet.now ∷ past)) }
+        ensures out { (ts : List ServiceTerms) (past before : List (List ℕ)) (start : Option (List ℕ)) (first : U)
+            → share_an_index (configs_of ts) ≡ false → AirServicesStandFor self.old (configs_of ts) past → FiledAs libraries.now ts
+            → RunsSoFar self.old ts past (λ l. K.holds out.old start (before ++ l)) (Exchanged U.exchanges U.failures first automation.old)
+            → OnOk result (RunsSoFar self.new ts (next.entry.packet.now ∷ past) (λ l. K.holds out.new start (before ++ l))
+            (Exchanged U.exchanges U.failures first automation.new)) }
+    {
+        let packet = next.packet;
+        let goes_on = match self.settle(takers, next, libraries, out, watch) {
+            Ok(goes_on) => goes_on,
+            Err(fault) => return Err(fault),
+        };
+        self.hear(automation);
+        if let Some(alone) = goes_on {
+            if !self.desk.asks_all {
+                return match self.go_on(takers, alone, packet, libraries, out) {
+                    Ok(passed) => {
+                        self.passed(passed, takers, next, libraries, watch);
+                        Ok(())
+                    }
+                    Err(fault) => Err(fault),
+                };
+            }
+        }
+        match self.pass_heard(takers, next, libraries, out, watch) {
+            Ok(()) => Ok(()),
+            Err(fault) => Err(fault),
+        }
+    }
+
     /// Hears the automation, and passes the next packet on, whatever is wrong with it.
     ///
     /// # Errors
@@ -645,23 +579,21 @@ impl<M: Allocator> AirServices<M> {
             number: self.packets,
         };
         let takers = self.desk.owners.takers(packet);
-        let goes_on = match self.settle(takers, next, libraries, out, watch) {
-            Ok(goes_on) => goes_on,
-            Err(fault) => return Err(fault),
-        };
-        self.hear(automation);
-        if let Some(alone) = goes_on {
-            if !self.desk.asks_all {
-                return match self.go_on(takers, alone, packet, libraries, out) {
-                    Ok(passed) => {
-                        self.passed(passed, takers, next, libraries, watch);
-                        Ok(())
-                    }
-                    Err(fault) => Err(fault),
-                };
-            }
+        if self.desk.asks_all || takers != 0 {
+            return match self.pass_taken(takers, next, automation, libraries, out, watch) {
+                Ok(()) => Ok(()),
+                Err(fault) => Err(fault),
+            };
         }
-        match self.pass_settled(takers, packet, libraries, out) {
+        self.settle_none(takers, packet);
+        self.hear(automation);
+        if self.desk.asks_all {
+            return match self.pass_heard(takers, next, libraries, out, watch) {
+                Ok(()) => Ok(()),
+                Err(fault) => Err(fault),
+            };
+        }
+        match self.put_beside(takers, packet, out) {
             Ok(passed) => {
                 self.passed(passed, takers, next, libraries, watch);
                 Ok(())

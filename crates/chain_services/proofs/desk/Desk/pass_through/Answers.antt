@@ -8,11 +8,3 @@ pub returns-then-leaves_out_all-clause-ok : goal.returns-then-leaves_out_all-cla
 returns-then-leaves_out_all-clause-ok g c = λ ts steps start ps filed all skip is_held.
     passed-all (services_in c.args.self.now) ts c.args.packet.now steps c.args.takers (λ l. g.K.PacketSink.holds c.args.out.now start (ps ++ l)) all c.of_bytes.ensures
     (c.leaves_out_all.ensures.none c.if-leaves_out_all.true) (skip (c.leaves_out_all.ensures.all c.if-leaves_out_all.true)) (subst (g.K.PacketSink.holds c.args.out.now start) (sym (append-nil ps)) is_held)
-
-pub returns-in-Ok-clause-ok : goal.returns-in-Ok-clause-ok
-returns-in-Ok-clause-ok g c = λ ts steps start ps filed all skip is_held.
-    c.in-Ok.ensures.ok ts steps c.args.takers start ps filed all (skip c.in-Some.ensures.some) c.in-Some.ensures.goes_on is_held
-
-pub returns-in-Err-clause-err : goal.returns-in-Err-clause-err
-returns-in-Err-clause-err g c = λ ts steps start ps filed all skip is_held.
-    c.in-Err.ensures.err ts steps c.args.takers start ps filed all (skip c.in-Some.ensures.some) c.in-Some.ensures.goes_on is_held

@@ -12,7 +12,7 @@ use Rattle.services_on_air.proofs.TogetherLemmas.{gone-of, filed-of}
 use Rattle.services_on_air.proofs.OwnerLemmas.{left-apart, judged-first}
 use Rattle.services_on_air.specs.Owners.{AreLeftOut}
 use Rattle.services_on_air.proofs.StayLemmas.{all-pass, pass-gone}
-use Rattle.services_on_air.proofs.services.+pass_each.Goals as goal
+use Rattle.services_on_air.proofs.passing.+pass_each.Goals as goal
 
 pub returns-in-Ok-pass_each-clause-stands : goal.returns-in-Ok-pass_each-clause-stands
 returns-in-Ok-pass_each-clause-stands g t c = λ xs h many out.

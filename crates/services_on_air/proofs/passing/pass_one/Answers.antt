@@ -2,7 +2,7 @@ use Rattle.std.proofs.Common.{◌++◌, sym, subst, ◌∙◌}
 use Rattle.std.proofs.lemmas.List.{append-nil}
 use Rattle.services_on_air.specs.Histories.{put_own, aired_as}
 use Rattle.services_on_air.proofs.BesideLemmas.{stays-behind, stays-passed, stays-gone}
-use Rattle.services_on_air.proofs.services.pass_one.Goals as goal
+use Rattle.services_on_air.proofs.passing.pass_one.Goals as goal
 
 pub returns-then-is_left_out-clause-stands : goal.returns-then-is_left_out-clause-stands
 returns-then-is_left_out-clause-stands g c = λ a h left.

@@ -1,5 +1,5 @@
 use Rattle.std.proofs.Common.{length}
-use Rattle.services_on_air.proofs.services.+pass_each.Given as goal
+use Rattle.services_on_air.proofs.passing.+pass_each.Given as goal
 
 -- proposed from what the function passes where it calls itself
 abbrev pub decreases-pass_each : goal.decreases-pass_each

@@ -9,7 +9,7 @@ use Rattle.services_on_air.specs.Serving.{AllGone}
 use Rattle.services_on_air.specs.Owners.{AreLeftOut}
 use Rattle.services_on_air.proofs.StayLemmas.{all-pass, pass-gone}
 use Rattle.services_on_air.proofs.FrontLemmas.{behind-passed, gone-behind-passed, fewer-behind, on-ok}
-use Rattle.services_on_air.proofs.services.pass_some.Goals as goal
+use Rattle.services_on_air.proofs.passing.pass_some.Goals as goal
 
 pub returns-clause-stands : goal.returns-clause-stands
 returns-clause-stands g c = λ xs h many out.
