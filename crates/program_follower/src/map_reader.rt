@@ -123,6 +123,30 @@ impl MapReader {
         }
     }
 
+    /// What is wrong with the maps that the next packet of the network, of whatever PID, finishes. It is not taken: a copy takes one of the PID of
+    /// the map. `at` is what the PAT lists before it.
+    pub(crate) fn look(
+        &self,
+        purpose: &Purpose,
+        at: Option<Listed>,
+        packet: &Packet,
+    ) -> Option<NetworkFault>
+        ensures { (past : List (List ℕ)) → at ≡ listed purpose.now.program past → MapsRead self.now purpose.now.program past
+            → result ≡ maps_fault_at purpose.now packet.now past }
+    {
+        let Some(here) = at else {
+            return None;
+        };
+        if !packet.is_on(here.pid) {
+            return None;
+        }
+        let mut reader = self.copied();
+        match reader.take(purpose, here, packet) {
+            Ok(()) => None,
+            Err(fault) => Some(fault),
+        }
+    }
+
     /// Passes a packet that is on no PID of the tables: it shows nothing.
     #[inline(always)]
     pub fn pass(&mut self)

@@ -14,7 +14,7 @@ use psi_tables::{NetworkFault, Pat, TableFault};
 use ts_packet::{Packet, Pid};
 
 /// Reads the sections on PID 0.
-#[derive(Drop)]
+#[derive(Clone, Copy)]
 pub struct PatReader {
     assembler: Assembler,
     listed: Option<Listed>,
@@ -30,16 +30,6 @@ impl PatReader {
         PatReader {
             assembler: Assembler::new(),
             listed: None,
-        }
-    }
-
-    /// A reader that was fed the same.
-    pub(crate) fn copied(&self) -> PatReader
-        ensures { result ≡ self.now }
-    {
-        PatReader {
-            assembler: self.assembler.copied(),
-            listed: self.listed,
         }
     }
 
@@ -69,6 +59,21 @@ impl PatReader {
             return Ok(());
         }
         self.take(purpose, packet)
+    }
+
+    /// What is wrong with the PATs that the next packet of the network, of whatever PID, finishes. It is not taken: a copy takes one of PID 0.
+    pub(crate) fn look(&self, purpose: &Purpose, packet: &Packet) -> Option<NetworkFault>
+        ensures { (past : List (List ℕ)) → PatsRead self.now purpose.now.program past
+            → result ≡ pats_fault_at purpose.now packet.now past }
+    {
+        if !packet.is_on(Pid::of_bits(0, 0)) {
+            return None;
+        }
+        let mut reader = *self;
+        match reader.take(purpose, packet) {
+            Ok(()) => None,
+            Err(fault) => Some(fault),
+        }
     }
 
     /// Takes a packet of PID 0. It stands by itself so that no other packet pays for the room that it takes.

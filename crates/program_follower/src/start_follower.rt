@@ -243,16 +243,15 @@ impl StartFollower {
         }
     }
 
-    /// Looks at a packet of a PID of tables or cues: a copy of what reads them takes it.
+    /// Looks at a packet of a PID of tables or cues.
     #[cold]
     #[inline(never)]
     fn look_at_tables(&self, packet: &Packet) -> Option<NetworkFault>
         ensures { OfStartPast self.now (λ c past. result ≡ network_fault c packet.now past) }
     {
-        let mut tables = self.tables.copied();
-        match tables.feed(packet) {
-            Ok(_) => self.look_at_units(packet),
-            Err(fault) => Some(fault),
+        match self.tables.look(packet) {
+            None => self.look_at_units(packet),
+            Some(fault) => Some(fault),
         }
     }
 

@@ -1,6 +1,6 @@
 //! The tables of a network: which program it has, and what is wrong with them.
 
-ghost use Rattle.std.specs.Prelude.{◌≡◌, ◌∷◌, [], ℕ, List, Option, Some, option_map, is_some, false, OnOk, IfOk, IfErr};
+ghost use Rattle.std.specs.Prelude.{◌≡◌, ◌∷◌, [], ℕ, List, Option, Some, option_map, is_some, false, OnOk, IfOk, IfErr, IfSome};
 ghost use Rattle.program_follower.specs.Program.{listed, pmt_pid_of, tables, program_of};
 ghost use Rattle.program_follower.specs.Faults.{network_fault, unit_fault_at, on_cue};
 ghost use Rattle.program_follower.specs.Standing.{TablesRead, TablesShow, OfTables, tables_left, lent_program, or_zero};
@@ -48,19 +48,6 @@ impl TableReader {
             maps: MapReader::new(),
             cue_pid: or_zero(purpose.cue_pid),
             map_pid: Pid::of_bits(0, 0),
-        }
-    }
-
-    /// A reader that was fed the same.
-    pub(crate) fn copied(&self) -> TableReader
-        ensures { OfTables self.now (λ c past. TablesRead result c past) }
-    {
-        TableReader {
-            purpose: self.purpose,
-            pats: self.pats.copied(),
-            maps: self.maps.copied(),
-            cue_pid: self.cue_pid,
-            map_pid: self.map_pid,
         }
     }
 
@@ -145,6 +132,21 @@ impl TableReader {
         match self.maps.feed(&self.purpose, listed, packet) {
             Ok(is_map) => Ok(on_tables(is_map, is_cue)),
             Err(fault) => Err(fault),
+        }
+    }
+
+    /// What is wrong with the next packet of the network, of whatever PID, where that is no fault of a unit. It is not taken: a copy of what reads
+    /// the sections of its PID takes it.
+    pub(crate) fn look(&self, packet: &Packet) -> Option<NetworkFault>
+        ensures none { OfTables self.now (λ c past. result ≡ None → network_fault c packet.now past ≡ unit_fault_at c packet.now past) }
+        ensures some { OfTables self.now (λ c past. IfSome result (λ f. network_fault c packet.now past ≡ Some f)) }
+    {
+        if self.purpose.writes_cues && is_on_pid(self.purpose.cue_pid, packet) {
+            return Some(NetworkFault::CuePidUsed);
+        }
+        match self.pats.look(&self.purpose, packet) {
+            Some(fault) => Some(fault),
+            None => self.maps.look(&self.purpose, self.pats.listed(), packet),
         }
     }
 

@@ -8,7 +8,7 @@ use crate::store::Store;
 use ts_packet::{Last, Packet};
 
 /// Gives the sections in the packets of one PID (ISO/IEC 13818-1, 2.4.4). It takes no memory.
-#[derive(Drop)]
+#[derive(Clone, Copy)]
 pub struct Assembler {
     /// The last payload packet.
     last: Option<Last>,
@@ -136,11 +136,7 @@ impl Assembler {
     pub fn copied(&self) -> Assembler
         ensures { result ≡ self.now }
     {
-        Assembler {
-            last: self.last,
-            store: self.store.copied(),
-            bad: self.bad,
-        }
+        *self
     }
 
     /// The number of sections passed over whose CRC_32 failed; it stops at the greatest.

@@ -6,7 +6,7 @@ ghost use Rattle.std.specs.Prelude.{◌≡◌, ℕ, ◌+◌, ◌-◌, ◌≤◌,
 pub const SECTION_SIZE: usize = 4096;
 
 /// Bytes in a row: the longest section, and those of a packet behind it.
-#[derive(Drop)]
+#[derive(Clone, Copy)]
 pub struct Store {
     bytes: [u8; 4280],
     /// Where the bytes that are not given yet begin.
@@ -29,17 +29,6 @@ impl Store {
             bytes: [0; 4280],
             at: 0,
             end: 0,
-        }
-    }
-
-    /// A store of the same bytes.
-    pub(crate) fn copied(&self) -> Store
-        ensures { result ≡ self.now }
-    {
-        Store {
-            bytes: self.bytes,
-            at: self.at,
-            end: self.end,
         }
     }
 
