@@ -12,7 +12,7 @@ use Rattle.chain_engine.specs.declared.service.Service.{Service}
 use Rattle.chain_engine.proofs.PassingLemmas.{last-sound}
 use Rattle.service_laws.specs.Services.{ServiceTerms, configs_of}
 use Rattle.service_laws.specs.Faults.{meets, share_a_pid, services_fault}
-use Rattle.chain_services.specs.Serving.{ServesAs, AllServe}
+use Rattle.chain_services.specs.Serving.{ServesAs, AllServe, HasIndexOf}
 use Rattle.chain_services.specs.Parts.{KnowsSame, AllKnowSame}
 use Rattle.chain_services.proofs.PartLemmas.{taken_packets}
 
@@ -29,9 +29,10 @@ sound_at (s ∷ ss) (t ∷ ts) steps p past h e =
     ap (λ o. option_or o (services_fault (configs_of ts) p past)) one ∙ sound_at ss ts steps p past h.1 e
 
 -- and all packets are of bytes
-pub all_bytes : (s : Service) (ss : List Service) (ts : List ServiceTerms) (steps : List Step) → AllServe (s ∷ ss) ts steps → ArePacketsOfBytes (packets_in steps)
-all_bytes s ss [] steps h = absurd h
-all_bytes s ss (t ∷ ts) steps h = (subst (IsSoundNetwork t.config) (taken_packets s t steps h.0) h.0.stands.network).bytes
+pub all_bytes : (ss : List Service) (ts : List ServiceTerms) (steps : List Step) (index : ℕ) → HasIndexOf index ts → AllServe ss ts steps → ArePacketsOfBytes (packets_in steps)
+all_bytes ss [] steps index first h = absurd first
+all_bytes [] (t ∷ ts) steps index first h = absurd h
+all_bytes (s ∷ ss) (t ∷ ts) steps index first h = (subst (IsSoundNetwork t.config) (taken_packets s t steps h.0) h.0.stands.network).bytes
 
 -- ---- where no PID more is known
 

@@ -1,8 +1,8 @@
 -- Services that were given nothing.
-use Rattle.std.specs.Prelude.{OnOk, map}
+use Rattle.std.specs.Prelude.{OnOk, map, slice_get}
 use Rattle.std.specs.List.{list_any}
 use Rattle.std.proofs.lemmas.Bool.{or_from}
-use Rattle.std.proofs.Common.{◌≡◌, ◌≤◌, ℕ, suc, ◌||◌, false, List, [], ◌∷◌, ◌++◌, length, Option, None, Result, Ok, Err, refl, sym, ap, subst, ◌∙◌, append_assoc}
+use Rattle.std.proofs.Common.{◌≡◌, ◌≤◌, ℕ, suc, ◌||◌, false, List, [], ◌∷◌, ◌++◌, length, Option, None, Some, Result, Ok, Err, refl, sym, ap, subst, ◌∙◌, append_assoc}
 use Rattle.psi_tables.specs.declared.config.Config.{Config}
 use Rattle.injector.specs.Steps.{Step}
 use Rattle.ad_library.specs.Advertisements.{Advertisement}
@@ -17,7 +17,7 @@ use Rattle.chain_engine.specs.Automation.{Exchange}
 use Rattle.chain_engine.specs.Runs.{Exchanged}
 use Rattle.chain_engine.proofs.RunLemmas.{begun}
 use Rattle.chain_services.proofs.UnfollowedLemmas.{all-take}
-use Rattle.chain_services.specs.Serving.{ServesAs, AllServe, FiledAs, services_in, reply_by}
+use Rattle.chain_services.specs.Serving.{ServesAs, AllServe, FiledAs, HasIndexOf, services_in, reply_by}
 use Rattle.chain_services.specs.Runs.{terms_by, ServicesStandFor}
 use Rattle.chain_services.specs.Stages.{ServicesSend, DeskServes, configs_in, terms_in}
 use Rattle.chain_services.specs.declared.services.Services.{Services}
@@ -123,11 +123,14 @@ module _ {X : Type 0} (exchanges : X → List Exchange → X → Type 0) (exchan
         few = subst (λ n. n ≤ 8) (sym (terms_long ts ∙ ap length configs)) h.few;
         apart = none_share (configs_of ts);
         run = begun exchanges exchanges_refl exchanges_trans failures (DeskServes ts) (reply_by ts) services.desk services.talk (λ steps. services_send ts steps ≡ []) x h.talk
-            (record { services = h.serve ts configs; counts = h.counts; owners = all-take services.desk.owners ts [] h.owners; quiet = λ e. tt }) refl;
+            (record { services = h.serve ts configs; none = h.none ts configs; counts = h.counts; owners = all-take services.desk.owners ts [] h.owners; quiet = λ e. tt }) refl;
       }
 
--- all services, the first and those behind it, were given nothing
-pub all_begin : (s : Service) (ss : List Service) (configs : List Config) (c : Config) (cs : List Config) → configs ≡ c ∷ cs → ((filed : ℕ → Option Advertisement) → ServiceStandsFor s c filed [])
-    → ((us : List ServiceTerms) → configs_of us ≡ cs → AllServe ss us []) → (ts : List ServiceTerms) → configs_of ts ≡ configs → AllServe (s ∷ ss) ts []
-all_begin s ss configs c cs shape stands them ts e =
-    let h = headed ts c cs (e ∙ shape) in subst (λ l. AllServe (s ∷ ss) l []) (sym h.parts) (begins_serving s h.t c h.config stands, them h.rest h.configs)
+-- ---- the first configuration
+
+pub first_index : (ts : List ServiceTerms) (configs : List Config) (c : Config) → configs_of ts ≡ configs → slice_get configs 0 ≡ Some c → HasIndexOf c.index ts
+first_index [] configs c e f = let not_so : None ≡ Some c = ap (λ (l : List Config). slice_get l 0) e ∙ f in absurd (cc)
+first_index (t ∷ ts) configs c e f =
+    let same : Some t.config ≡ Some c = ap (λ (l : List Config). slice_get l 0) e ∙ f in
+    let one : t.config ≡ c = cc in
+    ap (λ (d : Config). d.index) (sym one)

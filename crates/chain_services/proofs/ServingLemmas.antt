@@ -10,6 +10,9 @@ use Rattle.psi_tables.specs.declared.config.Config.{Config}
 use Rattle.scte104_codec.specs.Reading.{MessageReading}
 use Rattle.scte104_codec.specs.declared.reply.Reply.{Reply}
 use Rattle.injector.specs.Replies.{reply_to}
+use Rattle.injector.specs.Requests.{RequestsStandFor}
+use Rattle.injector.specs.Turns.{Turn, Judged}
+use Rattle.injector.specs.declared.requests.Requests.{Requests}
 use Rattle.injector.specs.Steps.{Step, Message, turns_in}
 use Rattle.chain_engine.specs.Judging.{ServiceJudges}
 use Rattle.chain_engine.specs.declared.service.Service.{Service}
@@ -17,7 +20,7 @@ use Rattle.chain_engine.proofs.PassingLemmas.{serves-one}
 use Rattle.service_laws.specs.Messages.{is_for, own_steps, reply_of_none, share_an_index, accepts, refuses}
 use Rattle.service_laws.specs.Services.{ServiceTerms, configs_of}
 use Rattle.service_laws.proofs.MessageLemmas.{own_reply, others_reply, for_one}
-use Rattle.chain_services.specs.Serving.{ServesAs, AllServe, AskedOwn, CountsReplies, reply_by}
+use Rattle.chain_services.specs.Serving.{ServesAs, AllServe, AskedOwn, AnswersNone, HasIndexOf, CountsReplies, reply_by}
 
 -- the reply by a service's own history
 abbrev pub own_answer : ServiceTerms → MessageReading → List Step → Reply
@@ -76,16 +79,10 @@ reply_here t ts m steps y = ap (λ b. if b then own_answer t m steps else reply_
 pub reply_behind : (t : ServiceTerms) (ts : List ServiceTerms) (m : MessageReading) (steps : List Step) → is_for t.config.index m ≡ false → reply_by (t ∷ ts) m steps ≡ reply_by ts m steps
 reply_behind t ts m steps n = ap (λ b. if b then own_answer t m steps else reply_by ts m steps) n
 
-none_reply : (ts : List ServiceTerms) (m : MessageReading) (steps : List Step) → one_is_for m ts ≡ false → reply_by ts m steps ≡ reply_of_none m
+pub none_reply : (ts : List ServiceTerms) (m : MessageReading) (steps : List Step) → one_is_for m ts ≡ false → reply_by ts m steps ≡ reply_of_none m
 none_reply [] m steps n = refl
 none_reply (t ∷ ts) m steps n =
     let parts = or_parts (is_for t.config.index m) (one_is_for m ts) n in reply_behind t ts m steps parts.0 ∙ none_reply ts m steps parts.1
-
--- the first service answers its own, and what is for none
-pub first_answers : (t : ServiceTerms) (ts : List ServiceTerms) (m : MessageReading) (steps : List Step) → one_is_for m ts ≡ false → own_answer t m steps ≡ reply_by (t ∷ ts) m steps
-first_answers t ts m steps n = by_test (is_for t.config.index m)
-    (λ y. sym (reply_here t ts m steps y))
-    (λ k. others_reply t.config.program t.config.index m (own_steps t.config.index steps) k ∙ sym (none_reply ts m steps n) ∙ sym (reply_behind t ts m steps k))
 
 -- ---- the service with this index
 
@@ -101,26 +98,27 @@ asked_behind s ss t ts m None steps n h asked = (or_from (is_for t.config.index 
 asked_behind s ss t ts m (Some r) steps n h asked =
     (or_right (is_for t.config.index m) (one_is_for m ts) asked.0, asked.1 ∙ sym (reply_behind t ts m steps n), (others_stay s t m steps n h, asked.2))
 
--- ---- all services
-
--- one of the others judged it
-pub others_judged : (s : Service) (ss : List Service) (t : ServiceTerms) (ts : List ServiceTerms) (m : MessageReading) (r : Reply) (steps : List Step) → share_an_index (configs_of (t ∷ ts)) ≡ false
-    → ServesAs s t steps → AskedOwn (Some r) ss ts m steps → (r ≡ reply_by (t ∷ ts) m steps) × AllServe (s ∷ ss) (t ∷ ts) (Message m ∷ steps)
-others_judged s ss t ts m r steps apart h asked =
-    let n : is_for t.config.index m ≡ false = by_test (is_for t.config.index m) (λ y. absurd (true≢false (sym asked.0 ∙ only_one t ts m apart y))) (λ n. n) in
-    let all = asked_behind s ss t ts m (Some r) steps n h asked in
-    (all.1, all.2)
-
--- the first one did
-pub first_judged : (s s' : Service) (ss : List Service) (t : ServiceTerms) (ts : List ServiceTerms) (m : MessageReading) (r : Reply) (steps : List Step) → one_is_for m ts ≡ false
-    → ServiceJudges s m r s' → ServesAs s t steps → AllServe ss ts (Message m ∷ steps) → (r ≡ reply_by (t ∷ ts) m steps) × AllServe (s' ∷ ss) (t ∷ ts) (Message m ∷ steps)
-first_judged s s' ss t ts m r steps n judged h others =
-    let (says, serves) = serves_message s s' t m r steps judged h in (says ∙ first_answers t ts m steps n, (serves, others))
+-- ---- those for none
 
 -- a message with no index is for none
 pub for_none : (m : MessageReading) (ts : List ServiceTerms) → ((i : ℕ) → is_for i m ≡ false) → one_is_for m ts ≡ false
 for_none m [] n = refl
 for_none m (t ∷ ts) n = or_from (is_for t.config.index m) (one_is_for m ts) (n t.config.index) (for_none m ts n)
+
+-- nor is one for none for the first
+not_first : (index : ℕ) (ts : List ServiceTerms) (m : MessageReading) → HasIndexOf index ts → one_is_for m ts ≡ false → is_for index m ≡ false
+not_first index [] m h not_so = absurd h
+not_first index (t ∷ ts) m h not_so = ap (λ i. is_for i m) h ∙ (or_parts (is_for t.config.index m) (one_is_for m ts) not_so).0
+
+-- so it is answered as one for none
+pub answers_none : (none now : Requests) (ts : List ServiceTerms) (m : MessageReading) (r : Reply) → one_is_for m ts ≡ false
+    → ((index : ℕ) (past : List Turn) → RequestsStandFor none index past → r ≡ reply_to index m past)
+    → ((index : ℕ) (past : List Turn) → RequestsStandFor none index past → RequestsStandFor now index (Judged m ∷ past)) → AnswersNone none ts
+    → (r ≡ reply_of_none m) × AnswersNone now ts
+answers_none none now ts m r not_so says turn n = (
+  says n.index (turns_in 0 n.steps) n.stands ∙ others_reply 0 n.index m n.steps (not_first n.index ts m n.is_first not_so),
+  record { index = n.index; steps = Message m ∷ n.steps; is_first = n.is_first; stands = turn n.index (turns_in 0 n.steps) n.stands },
+)
 
 -- ---- the first of some services, by what the code knows
 
@@ -140,26 +138,6 @@ module _ (services : List Service) (s : Service) (ss : List Service) (m : Messag
   asked_later [] ss' o apart all n goes = absurd (subst (λ l. AllServe l [] steps) shape all)
   asked_later (t ∷ ts) ss' o apart all n goes =
       let h = subst (λ l. AllServe l (t ∷ ts) steps) shape all in asked_behind s ss' t ts m o steps (for_here t false h.0 n) h.0 (goes ts (apart_behind t ts apart) h.1)
-
--- ---- all services, by what the code knows
-
-pub others_told : (first : Service) (others others' : List Service) (ts : List ServiceTerms) (m : MessageReading) (r : Reply) (steps : List Step) → share_an_index (configs_of ts) ≡ false
-    → AllServe (first ∷ others) ts steps → ((us : List ServiceTerms) → share_an_index (configs_of us) ≡ false → AllServe others us steps → AskedOwn (Some r) others' us m steps)
-    → (r ≡ reply_by ts m steps) × AllServe (first ∷ others') ts (Message m ∷ steps)
-others_told first others others' [] m r steps apart all goes = absurd all
-others_told first others others' (t ∷ ts) m r steps apart all goes = others_judged first others' t ts m r steps apart all.0 (goes ts (apart_behind t ts apart) all.1)
-
-pub first_told : (first first' : Service) (others others' : List Service) (ts : List ServiceTerms) (m : MessageReading) (r : Reply) (steps : List Step) → share_an_index (configs_of ts) ≡ false
-    → AllServe (first ∷ others) ts steps → ((us : List ServiceTerms) → share_an_index (configs_of us) ≡ false → AllServe others us steps → AskedOwn None others' us m steps)
-    → ServiceJudges first m r first' → (r ≡ reply_by ts m steps) × AllServe (first' ∷ others') ts (Message m ∷ steps)
-first_told first first' others others' [] m r steps apart all goes judged = absurd all
-first_told first first' others others' (t ∷ ts) m r steps apart all goes judged =
-    let asked = goes ts (apart_behind t ts apart) all.1 in first_judged first first' others' t ts m r steps asked.0 judged all.0 asked.1
-
--- a message for none goes by
-pub none_told : (m : MessageReading) (others : List Service) (steps : List Step) → ((i : ℕ) → is_for i m ≡ false) → (us : List ServiceTerms) → share_an_index (configs_of us) ≡ false
-    → AllServe others us steps → AskedOwn None others us m steps
-none_told m others steps n us apart all = (for_none m us n, all_stay others us m steps (for_none m us n) all)
 
 -- ---- counts
 

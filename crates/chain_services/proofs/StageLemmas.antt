@@ -277,7 +277,7 @@ module _ {M : Type 0} (ts : List ServiceTerms) (exchanged : Option SessionEnd �
   services_ended report counts events bs all sound = record {
     sound = sound;
     bytes = subst (λ q. ArePacketsOfBytes (reverse q)) (sym all)
-        (subst ArePacketsOfBytes (steps_packets (length h.rs) h.ts (reverse ps)) (all_bytes desk.first desk.others.items ts all_steps h.gone.services));
+        (subst ArePacketsOfBytes (steps_packets (length h.rs) h.ts (reverse ps)) (all_bytes desk.services.items ts all_steps h.gone.none.index h.gone.none.is_first h.gone.services));
     takes = h.ts;
     rs = h.rs;
     serves = subst (λ q. ServesBy (reply_by ts) exchanged h.ts h.rs (length q) (steps_of (length h.rs) h.ts (reverse q))) (sym all)

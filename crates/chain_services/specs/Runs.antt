@@ -23,7 +23,7 @@ use Rattle.service_laws.specs.Messages.{share_an_index}
 use Rattle.service_laws.specs.Services.{ServiceTerms, configs_of, given_at, services_send, services_rest, services_output}
 use Rattle.service_laws.specs.Faults.{services_test, first_services_fault}
 use Rattle.chain_services.specs.Owners.{AllTake}
-use Rattle.chain_services.specs.Serving.{reply_by, AllServe, CountsReplies, services_in}
+use Rattle.chain_services.specs.Serving.{reply_by, AllServe, AnswersNone, CountsReplies, services_in}
 use Rattle.chain_services.specs.Parts.{FrontIsOut, AreEvents}
 use Rattle.chain_services.specs.declared.report.ServiceReport.{ServiceReport}
 use Rattle.chain_services.specs.declared.services.Services.{Services}
@@ -40,6 +40,7 @@ terms_by (c ∷ cs) (l ∷ ls) = record { config = c; filed = held l } ∷ terms
 pub record ServicesStandFor {M : Type 0} (services : Services M) (cs : List Config) : Type 0 where
   pub talk : TalkStandsFor services.talk [] 0 0
   pub serve : (ts : List ServiceTerms) → configs_of ts ≡ cs → AllServe (services_in services.desk) ts []
+  pub none : (ts : List ServiceTerms) → configs_of ts ≡ cs → AnswersNone services.desk.none ts
   pub counts : CountsReplies services.desk.counts.messages services.desk.counts.accepted services.desk.counts.refused []
   pub owners : AllTake services.desk.owners
   pub indexes : share_an_index cs ≡ false

@@ -4,7 +4,9 @@ use Rattle.std.specs.List.{list_any}
 use Rattle.psi_section.specs.Assembling.{capped}
 use Rattle.scte104_codec.specs.Reading.{MessageReading}
 use Rattle.scte104_codec.specs.declared.reply.Reply.{Reply}
-use Rattle.injector.specs.Steps.{Step, Message, packets_in}
+use Rattle.injector.specs.Requests.{RequestsStandFor}
+use Rattle.injector.specs.Steps.{Step, Message, packets_in, turns_in}
+use Rattle.injector.specs.declared.requests.Requests.{Requests}
 use Rattle.ad_library.specs.declared.library.AdLibrary.{AdLibrary}
 use Rattle.ad_library.specs.Library.{held}
 use Rattle.chain_engine.specs.Passing.{ServiceStandsFor}
@@ -45,11 +47,23 @@ pub record CountsReplies (all yes no : ℕ) (rs : List Reply) : Type 0 where
   pub accepted : yes ≡ capped (length (filter accepts rs))
   pub refused : no ≡ capped (length (filter refuses rs))
 
+-- what answers the messages for no service has the index of the first one, and judged messages
+abbrev pub HasIndexOf : ℕ → List ServiceTerms → Type 0
+HasIndexOf index [] = ⊥
+HasIndexOf index (t ∷ ts) = index ≡ t.config.index
+
+pub record AnswersNone (none : Requests) (ts : List ServiceTerms) : Type 0 where
+  pub index : ℕ
+  pub steps : List Step
+  pub is_first : HasIndexOf index ts
+  pub stands : RequestsStandFor none index (turns_in 0 steps)
+
 abbrev pub services_in : {M : Type 0} → Desk M → List Service
-services_in desk = desk.first ∷ desk.others.items
+services_in desk = desk.services.items
 
 pub record DeskStandsFor {M : Type 0} (desk : Desk M) (ts : List ServiceTerms) (steps : List Step) : Type 0 where
   pub services : AllServe (services_in desk) ts steps
+  pub none : AnswersNone desk.none ts
   pub counts : CountsReplies desk.counts.messages desk.counts.accepted desk.counts.refused (replies_by (reply_by ts) steps)
   pub owners : HasOwners desk.owners ts (packets_in steps)
   pub quiet : desk.has_heard ≡ false → IsQuiet steps
@@ -67,9 +81,10 @@ AskedOwn None services ts m steps = (list_any (λ (t : ServiceTerms). is_for t.c
 AskedOwn (Some r) services ts m steps = (list_any (λ (t : ServiceTerms). is_for t.config.index m) ts ≡ true) × (r ≡ reply_by ts m steps)
     × AllServe services ts (Message m ∷ steps)
 
--- it was judged by the service that it is for, or the first one, and answered so
+-- it was judged by the service that it is for, or by what answers those for none, and answered so
 abbrev pub ServesBehind : {M : Type 0} → Desk M → Desk M → List ServiceTerms → MessageReading → List Step → Reply → Type 0
-ServesBehind old new ts m steps reply = AllServe (services_in old) ts steps → (reply ≡ reply_by ts m steps) × AllServe (services_in new) ts (Message m ∷ steps)
+ServesBehind old new ts m steps reply = AllServe (services_in old) ts steps → AnswersNone old.none ts
+    → (reply ≡ reply_by ts m steps) × AllServe (services_in new) ts (Message m ∷ steps) × AnswersNone new.none ts
 
 -- a message was judged, and answered so, by the history; no two services have one index
 pub record DeskJudges {M : Type 0} (old : Desk M) (m : MessageReading) (reply : Reply) (new : Desk M) : Type 0 where

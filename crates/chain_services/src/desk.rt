@@ -11,7 +11,7 @@ ghost use Rattle.chain_services.specs.Serving.{AllServe, AskedOwn, CountsReplies
 
 use crate::owners::{Owners, owners_of};
 use chain_engine::{Judge, Service};
-use injector::MessageCounts;
+use injector::{MessageCounts, Requests};
 use scte104_codec::operation_ids::INJECT_RESPONSE;
 use scte104_codec::{BadMessage, Message, Reply};
 use std::alloc::Allocator;
@@ -68,11 +68,12 @@ pub fn counted(before: MessageCounts, reply: &Reply) -> MessageCounts
     counts
 }
 
-/// The services, in their order: at least one.
+/// The services, in their order.
 #[derive(Drop)]
 pub(crate) struct Desk<M: Allocator> {
-    pub(crate) first: Service,
-    pub(crate) others: Vec<Service, M>,
+    pub(crate) services: Vec<Service, M>,
+    /// What answers the messages that are for no service.
+    pub(crate) none: Requests,
     /// How many messages were judged.
     pub(crate) counts: MessageCounts,
     /// Which services take the packets of each PID.
@@ -84,7 +85,7 @@ pub(crate) struct Desk<M: Allocator> {
 impl<M: Allocator> Desk<M> {
     ghost use Rattle.chain_services.specs.Serving.{ServesBehind};
 
-    /// Has the service that the message is for judge it, and the first one where it is for none.
+    /// Has the service that the message is for judge it.
     fn judge(&mut self, message: Result<Message<'_>, BadMessage>) -> Reply
         ensures judged { (ts : List ServiceTerms) (steps : List Step) → share_an_index (configs_of ts) ≡ false
             → ServesBehind self.old self.new ts (reading_of message.entry) steps result }
@@ -92,10 +93,10 @@ impl<M: Allocator> Desk<M> {
         ensures owners { self.new.owners ≡ self.old.owners }
     {
         match index_of(&message) {
-            None => self.first.ask(message),
-            Some(index) => match ask_own(self.others.as_mut_slice(), index, message) {
+            None => self.none.ask(message),
+            Some(index) => match ask_own(self.services.as_mut_slice(), index, message) {
                 Some(reply) => reply,
-                None => self.first.ask(message),
+                None => self.none.ask(message),
             },
         }
     }
@@ -113,13 +114,14 @@ impl<M: Allocator> Desk<M> {
         ensures owners { (ts : List ServiceTerms) (steps : List Step) → AllServe (services_in self.old) ts steps
             → HasOwners self.new.owners ts (packets_in steps) }
         ensures services { services_in self.new ≡ services_in self.old }
+        ensures none { self.new.none ≡ self.old.none }
         ensures counts { self.new.counts ≡ self.old.counts }
     {
-        self.owners = owners_of(&self.first, self.others.as_slice());
+        self.owners = owners_of(self.services.as_slice());
     }
 }
 
-/// A message goes to the service whose index it has; the first one answers those that are for none.
+/// A message goes to the service whose index it has.
 impl<M: Allocator> Judge for Desk<M> {
     ghost use Rattle.chain_services.specs.Serving.{DeskJudges};
 

@@ -115,14 +115,7 @@ impl<M: Allocator> Desk<M> {
             (K.counts out.old) (K.counts out.new) (K.is_full out.new)) }
     {
         let mut events = ArrayVec::new();
-        let Some((library, libraries)) = libraries.split_first() else {
-            return Err(FeedFault::Failed);
-        };
-        match finish_one(&mut self.first, library, &mut events, out) {
-            Ok(()) => {}
-            Err(fault) => return Err(fault),
-        }
-        match finish_each(self.others.as_mut_slice(), libraries, &mut events, out) {
+        match finish_each(self.services.as_mut_slice(), libraries, &mut events, out) {
             Ok(()) => Ok(events),
             Err(fault) => Err(fault),
         }

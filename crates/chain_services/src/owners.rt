@@ -172,15 +172,6 @@ fn takers_of(services: &[Service], pid: Pid) -> u8
     }
 }
 
-/// Which of the services, the first one and the others, take the packets of the PID.
-fn all_takers_of(first: &Service, others: &[Service], pid: Pid) -> u8
-    ensures { (ts : List ServiceTerms) (steps : List Step) → AllServe (first.now ∷ others.now) ts steps
-        → result < 255 → LeavesOut result ts pid (packets_in steps) }
-{
-    let behind = takers_of(others, pid);
-    with_taker(first.overlooks_pid(pid), behind)
-}
-
 /// The PAT has come that lists its program, since a PID of that is known.
 fn is_listed(service: &Service) -> bool
     ensures { (t : ServiceTerms) (steps : List Step) → ServesAs service.now t steps → result ≡ true
@@ -203,73 +194,62 @@ fn waiting_in(services: &[Service]) -> u8
     }
 }
 
-/// The same of the services, the first one and the others.
-fn all_waiting_in(first: &Service, others: &[Service]) -> u8
-    ensures { (ts : List ServiceTerms) (steps : List Step) (pid : ℕ) → AllServe (first.now ∷ others.now) ts steps
-        → (0 == pid) ≡ false → list_any (has_pid pid (packets_in steps)) ts ≡ false
-        → IsTold result ts pid (packets_in steps) }
-{
-    let behind = waiting_in(others);
-    with_taker(is_listed(first), behind)
-}
-
 /// Tells which of the services take the packets of this PID.
-fn tell(owners: &mut Owners, first: &Service, others: &[Service], pid: Pid)
-    ensures { (ts : List ServiceTerms) (steps : List Step) → AllServe (first.now ∷ others.now) ts steps
+fn tell(owners: &mut Owners, services: &[Service], pid: Pid)
+    ensures { (ts : List ServiceTerms) (steps : List Step) → AllServe services.now ts steps
         → ToldAnew owners.old owners.new ts (λ k. pid == k) (packets_in steps) }
 {
-    owners.set(pid, all_takers_of(first, others, pid));
+    owners.set(pid, takers_of(services, pid));
 }
 
 /// Tells it of each of these PIDs.
-fn tell_each(owners: &mut Owners, first: &Service, others: &[Service], pids: &[Pid])
-    ensures { (ts : List ServiceTerms) (steps : List Step) → AllServe (first.now ∷ others.now) ts steps
+fn tell_each(owners: &mut Owners, services: &[Service], pids: &[Pid])
+    ensures { (ts : List ServiceTerms) (steps : List Step) → AllServe services.now ts steps
         → ToldAnew owners.old owners.new ts (λ k. is_among k pids.now) (packets_in steps) }
 {
     match pids.split_first() {
         None => {}
         Some((pid, behind)) => {
-            tell(owners, first, others, *pid);
-            tell_each(owners, first, others, behind);
+            tell(owners, services, *pid);
+            tell_each(owners, services, behind);
         }
     }
 }
 
 /// Tells it of each PID of this service: that for its cues, and those that are known of its program.
-fn tell_own(owners: &mut Owners, first: &Service, others: &[Service], service: &Service)
-    ensures { (ts : List ServiceTerms) (u : ServiceTerms) (steps : List Step) → AllServe (first.now ∷ others.now) ts steps
+fn tell_own(owners: &mut Owners, services: &[Service], service: &Service)
+    ensures { (ts : List ServiceTerms) (u : ServiceTerms) (steps : List Step) → AllServe services.now ts steps
         → ServesAs service.now u steps
         → ToldAnew owners.old owners.new ts (λ k. has_pid k (packets_in steps) u) (packets_in steps) }
 {
-    tell(owners, first, others, service.config().cue_pid);
+    tell(owners, services, service.config().cue_pid);
     let pids = service.pids();
-    tell_each(owners, first, others, pids.as_slice());
+    tell_each(owners, services, pids.as_slice());
 }
 
-/// Tells it of each PID of each of these services.
-fn tell_all(owners: &mut Owners, first: &Service, others: &[Service], services: &[Service])
-    ensures { (ts us : List ServiceTerms) (steps : List Step) → AllServe (first.now ∷ others.now) ts steps
-        → AllServe services.now us steps
+/// Tells it of each PID of each of these of the services.
+fn tell_all(owners: &mut Owners, services: &[Service], some: &[Service])
+    ensures { (ts us : List ServiceTerms) (steps : List Step) → AllServe services.now ts steps
+        → AllServe some.now us steps
         → ToldAnew owners.old owners.new ts (λ k. list_any (has_pid k (packets_in steps)) us) (packets_in steps) }
 {
-    match services.split_first() {
+    match some.split_first() {
         None => {}
         Some((service, behind)) => {
-            tell_own(owners, first, others, service);
-            tell_all(owners, first, others, behind);
+            tell_own(owners, services, service);
+            tell_all(owners, services, behind);
         }
     }
 }
 
 /// Which of these services take the packets of each PID. It is made anew where more PIDs are known of a service: the PIDs of the services and
 /// that of the PAT are looked at, and of each other one the same is known at once.
-pub(crate) fn owners_of(first: &Service, others: &[Service]) -> Owners
-    ensures { (ts : List ServiceTerms) (steps : List Step) → AllServe (first.now ∷ others.now) ts steps
+pub(crate) fn owners_of(services: &[Service]) -> Owners
+    ensures { (ts : List ServiceTerms) (steps : List Step) → AllServe services.now ts steps
         → HasOwners result ts (packets_in steps) }
 {
-    let mut owners = Owners::of_all(all_waiting_in(first, others));
-    tell(&mut owners, first, others, Pid::of_bits(0, 0));
-    tell_own(&mut owners, first, others, first);
-    tell_all(&mut owners, first, others, others);
+    let mut owners = Owners::of_all(waiting_in(services));
+    tell(&mut owners, services, Pid::of_bits(0, 0));
+    tell_all(&mut owners, services, services);
     owners
 }

@@ -10,7 +10,8 @@ ghost use Rattle.service_laws.specs.Services.{ServiceTerms, configs_of, given_at
 ghost use Rattle.service_laws.specs.Faults.{share_a_pid};
 ghost use Rattle.chain_services.specs.Owners.{IsSkipped, AreSkipped};
 ghost use Rattle.chain_services.specs.Serving.{ServesAs, AllServe, DeskStandsFor, FiledAs, services_in};
-ghost use Rattle.chain_services.specs.Parts.{PassedOn, FailedOn, PassedOne, FailedOne, PassedEach, FailedEach, FirstGoesOn, GoesOnBehind, AllKnowSame, parts_of};
+ghost use Rattle.chain_services.specs.Parts.{PassedOn, FailedOn, PassedOne, FailedOne, PassedEach, FailedEach, AllKnowSame, parts_of};
+ghost use Rattle.chain_services.specs.Parts.{FirstGoesOn, GoesOnBehind};
 
 use crate::desk::Desk;
 use crate::nowhere::Nowhere;
@@ -328,12 +329,13 @@ fn go_on_first<K: PacketSink>(
     }
 }
 
-/// Does what [`pass_each`] does, and begins with the first of these services that takes the packet.
+/// Does what [`pass_each`] does, and begins with the first of these services that takes the packet. It stands by itself, so that a packet
+/// that goes on does not pay for its room.
 ///
 /// # Errors
 ///
 /// As for [`pass_each`].
-#[inline(always)]
+#[inline(never)]
 fn pass_some<K: PacketSink>(
     all: bool,
     takers: u8,
@@ -377,49 +379,27 @@ fn pass_some<K: PacketSink>(
 }
 
 impl<M: Allocator> Desk<M> {
-    /// Which service alone takes the packet, where not all do, and the packet goes on alone for that one. `None` where it is no such packet. It is
-    /// not taken.
+    /// Which service alone takes the packet, where these take it and it goes on alone for that one. `None` where it is no such packet. It is not
+    /// taken.
     #[inline(always)]
-    fn goes_on(
-        &self,
-        all: bool,
-        takers: u8,
-        libraries: &[AdLibrary],
-        packet: &Packet,
-    ) -> Option<Alone>
-        ensures some { IfSome result (λ _. all ≡ false) }
+    fn goes_on(&self, takers: u8, libraries: &[AdLibrary], packet: &Packet) -> Option<Alone>
         ensures below { IfSome result (λ alone. alone.stream < 8) }
-        ensures services { IfSome result (λ alone. alone.count ≤ self.now.others.len) }
+        ensures services { IfSome result (λ alone. alone.count ≤ self.now.services.len) }
         ensures libraries { IfSome result (λ alone. alone.count ≤ length libraries.now) }
         ensures goes_on { IfSome result (λ alone. GoesOnBehind takers alone.count alone.stream (services_in self.now) packet.now) }
     {
-        let Some((_, behind)) = libraries.split_first() else {
-            return None;
-        };
-        if all {
-            return None;
-        }
-        if takers == 1 {
-            return match self.first.goes_on(packet) {
-                Some(stream) => Some(Alone { count: 0, stream }),
-                None => None,
-            };
-        }
-        if takers % 2 == 1 {
-            return None;
-        }
-        let others = self.others.as_slice();
-        let shift = shift_of(takers / 2, others.len().min(behind.len()));
+        let services = self.services.as_slice();
+        let shift = shift_of(takers, services.len().min(libraries.len()));
         if shift.takers != 1 {
             return None;
         }
-        let (_, others) = others.split_at(shift.count);
-        let Some((service, _)) = others.split_first() else {
+        let (_, services) = services.split_at(shift.count);
+        let Some((service, _)) = services.split_first() else {
             return None;
         };
         match service.goes_on(packet) {
             Some(stream) => Some(Alone {
-                count: shift.count + 1,
+                count: shift.count,
                 stream,
             }),
             None => None,
@@ -440,7 +420,7 @@ impl<M: Allocator> Desk<M> {
         out: &mut K,
     ) -> Result<(), FeedFault>
         requires below { alone.stream < 8 }
-        requires services { alone.count ≤ self.old.others.len }
+        requires services { alone.count ≤ self.old.services.len }
         requires libraries { alone.count ≤ length libraries.now }
         ensures leads { K.leads out.old out.new }
         ensures ok { (ts : List ServiceTerms) (steps : List Step) (takers : ℕ) (start : Option (List ℕ)) (ps : List (List ℕ))
@@ -455,131 +435,20 @@ impl<M: Allocator> Desk<M> {
         ensures well { OnOk result (WentWell (K.counts out.old) (K.counts out.new)) }
         ensures blamed { IfErr result (λ f. OutputBlamed (RunFault.Feed f)
             (K.counts out.old) (K.counts out.new) (K.is_full out.new)) }
+        ensures none { self.new.none ≡ self.old.none }
         ensures counts { self.new.counts ≡ self.old.counts }
         ensures owners { self.new.owners ≡ self.old.owners }
     {
         of_bytes(packet);
-        let Some((library, behind)) = libraries.split_first() else {
-            return Err(FeedFault::Failed);
-        };
-        if alone.count == 0 {
-            return match pass_alone(alone.stream, &mut self.first, library, packet, out) {
-                Ok(()) => Ok(()),
-                Err(fault) => Err(fault),
-            };
-        }
-        let (_front, others) = self.others.as_mut_slice().split_at_mut(alone.count - 1);
-        let (_before, behind) = behind.split_at(alone.count - 1);
-        match go_on_first(alone.stream, others, behind, packet, out) {
+        let (_, libraries) = libraries.split_at(alone.count);
+        let (_, services) = self.services.as_mut_slice().split_at_mut(alone.count);
+        match go_on_first(alone.stream, services, libraries, packet, out) {
             Ok(()) => Ok(()),
             Err(fault) => Err(fault),
         }
     }
 
-    /// Passes a packet on through those services that take it, one after another.
-    ///
-    /// # Errors
-    ///
-    /// As for [`pass_each`].
-    #[inline(never)]
-    fn pass_to_takers<K: PacketSink>(
-        &mut self,
-        all: bool,
-        takers: u8,
-        packet: &Packet,
-        libraries: &[AdLibrary],
-        out: &mut K,
-    ) -> Result<Passed, FeedFault>
-        ensures leads { K.leads out.old out.new }
-        ensures ok { (ts : List ServiceTerms) (steps : List Step) (start : Option (List ℕ)) (ps : List (List ℕ))
-            → FiledAs libraries.now ts → AllServe (services_in self.old) ts steps
-            → (all ≡ false → AreSkipped takers ts packet.now steps) → K.holds out.old start ps
-            → IfOk result (λ passed. PassedEach passed.is_own passed.learns (services_in self.new) ts packet.now steps
-            (λ l. K.holds out.new start (ps ++ l))) }
-        ensures err { (ts : List ServiceTerms) (steps : List Step) (start : Option (List ℕ)) (ps : List (List ℕ))
-            → FiledAs libraries.now ts → AllServe (services_in self.old) ts steps
-            → (all ≡ false → AreSkipped takers ts packet.now steps) → K.holds out.old start ps
-            → IfErr result (λ f. FailedEach f ts packet.now steps (parts_of ts packet.now steps)
-            (λ l. K.holds out.new start (ps ++ l)) (λ put q x. K.fails out.new start (ps ++ put) q x)) }
-        ensures well { OnOk result (WentWell (K.counts out.old) (K.counts out.new)) }
-        ensures blamed { IfErr result (λ f. OutputBlamed (RunFault.Feed f)
-            (K.counts out.old) (K.counts out.new) (K.is_full out.new)) }
-        ensures counts { self.new.counts ≡ self.old.counts }
-        ensures owners { self.new.owners ≡ self.old.owners }
-    {
-        let Some((library, libraries)) = libraries.split_first() else {
-            return Err(FeedFault::Failed);
-        };
-        let one = match pass_one(
-            leaves_out(all, takers),
-            &mut self.first,
-            library,
-            packet,
-            out,
-        ) {
-            Ok(one) => one,
-            Err(fault) => return Err(fault),
-        };
-        match pass_some(
-            all,
-            takers / 2,
-            self.others.as_mut_slice(),
-            libraries,
-            packet,
-            out,
-        ) {
-            Ok(others) => Ok(joined(one, others)),
-            Err(fault) => Err(fault),
-        }
-    }
-
-    /// Does what [`Desk::pass_through`] does. It stands by itself, so that a packet that no service takes does not pay for its room.
-    ///
-    /// # Errors
-    ///
-    /// As for [`pass_each`].
-    #[inline(never)]
-    fn pass_taken<K: PacketSink>(
-        &mut self,
-        all: bool,
-        takers: u8,
-        packet: &Packet,
-        libraries: &[AdLibrary],
-        out: &mut K,
-    ) -> Result<Passed, FeedFault>
-        ensures leads { K.leads out.old out.new }
-        ensures ok { (ts : List ServiceTerms) (steps : List Step) (start : Option (List ℕ)) (ps : List (List ℕ))
-            → FiledAs libraries.now ts → AllServe (services_in self.old) ts steps
-            → (all ≡ false → AreSkipped takers ts packet.now steps) → K.holds out.old start ps
-            → IfOk result (λ passed. PassedEach passed.is_own passed.learns (services_in self.new) ts packet.now steps
-            (λ l. K.holds out.new start (ps ++ l))) }
-        ensures err { (ts : List ServiceTerms) (steps : List Step) (start : Option (List ℕ)) (ps : List (List ℕ))
-            → FiledAs libraries.now ts → AllServe (services_in self.old) ts steps
-            → (all ≡ false → AreSkipped takers ts packet.now steps) → K.holds out.old start ps
-            → IfErr result (λ f. FailedEach f ts packet.now steps (parts_of ts packet.now steps)
-            (λ l. K.holds out.new start (ps ++ l)) (λ put q x. K.fails out.new start (ps ++ put) q x)) }
-        ensures well { OnOk result (WentWell (K.counts out.old) (K.counts out.new)) }
-        ensures blamed { IfErr result (λ f. OutputBlamed (RunFault.Feed f)
-            (K.counts out.old) (K.counts out.new) (K.is_full out.new)) }
-        ensures counts { self.new.counts ≡ self.old.counts }
-        ensures owners { self.new.owners ≡ self.old.owners }
-    {
-        if let Some(alone) = self.goes_on(all, takers, libraries, packet) {
-            return match self.go_on(alone, packet, libraries, out) {
-                Ok(()) => Ok(Passed {
-                    is_own: true,
-                    learns: false,
-                }),
-                Err(fault) => Err(fault),
-            };
-        }
-        match self.pass_to_takers(all, takers, packet, libraries, out) {
-            Ok(passed) => Ok(passed),
-            Err(fault) => Err(fault),
-        }
-    }
-
-    /// Passes a packet on through the services that take it, of the first one and the others: all, or those whose bits are set.
+    /// Passes a packet on through the services that take it: all, or those whose bits are set.
     ///
     /// # Errors
     ///
@@ -607,6 +476,7 @@ impl<M: Allocator> Desk<M> {
         ensures well { OnOk result (WentWell (K.counts out.old) (K.counts out.new)) }
         ensures blamed { IfErr result (λ f. OutputBlamed (RunFault.Feed f)
             (K.counts out.old) (K.counts out.new) (K.is_full out.new)) }
+        ensures none { self.new.none ≡ self.old.none }
         ensures counts { self.new.counts ≡ self.old.counts }
         ensures owners { self.new.owners ≡ self.old.owners }
     {
@@ -617,7 +487,22 @@ impl<M: Allocator> Desk<M> {
                 learns: false,
             });
         }
-        self.pass_taken(all, takers, packet, libraries, out)
+        if !all {
+            if let Some(alone) = self.goes_on(takers, libraries, packet) {
+                return match self.go_on(alone, packet, libraries, out) {
+                    Ok(()) => Ok(Passed {
+                        is_own: true,
+                        learns: false,
+                    }),
+                    Err(fault) => Err(fault),
+                };
+            }
+        }
+        let services = self.services.as_mut_slice();
+        match pass_some(all, takers, services, libraries, packet, out) {
+            Ok(passed) => Ok(passed),
+            Err(fault) => Err(fault),
+        }
     }
 
     /// Passes a packet on: what the service sends on whose PIDs it is, or the packet alone. Whether more PIDs may be known of a service.
@@ -648,6 +533,7 @@ impl<M: Allocator> Desk<M> {
         ensures well { OnOk result (WentWell (K.counts out.old) (K.counts out.new)) }
         ensures blamed { IfErr result (λ f. OutputBlamed (RunFault.Feed f)
             (K.counts out.old) (K.counts out.new) (K.is_full out.new)) }
+        ensures none { self.new.none ≡ self.old.none }
         ensures counts { self.new.counts ≡ self.old.counts }
         ensures owners { self.new.owners ≡ self.old.owners }
     {

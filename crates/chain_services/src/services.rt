@@ -13,7 +13,7 @@ use crate::desk::Desk;
 use crate::fault::ServiceFault;
 use crate::owners::Owners;
 use chain_engine::{Automation, OutOfMemory, Service, SessionEnd, Talk};
-use injector::MessageCounts;
+use injector::{MessageCounts, Requests};
 use psi_tables::Config;
 use std::alloc::{Allocator, Global};
 use ts_packet::Pid;
@@ -147,10 +147,10 @@ impl<M: Allocator + Copy> Services<M> {
         ensures sound { OnOk result (services_refused configs.now ≡ None) }
         ensures err { IfErr result (IsRefused configs.now) }
     {
-        let Some((first, others)) = configs.split_first() else {
+        let Some(first) = configs.first() else {
             return Err(ServiceFault::NoService);
         };
-        if others.len() >= MOST {
+        if configs.len() > MOST {
             return Err(ServiceFault::Many);
         }
         if share_an_index(configs) {
@@ -165,12 +165,12 @@ impl<M: Allocator + Copy> Services<M> {
         let Ok(talk) = Talk::new_in(alloc) else {
             return Err(ServiceFault::OutOfMemory);
         };
-        let Ok(others) = services_of(alloc, others) else {
+        let Ok(services) = services_of(alloc, configs) else {
             return Err(ServiceFault::OutOfMemory);
         };
         let desk = Desk {
-            first: Service::new(*first),
-            others,
+            services,
+            none: Requests::new(first.index),
             counts: MessageCounts {
                 messages: 0,
                 accepted: 0,
@@ -196,17 +196,14 @@ impl<M: Allocator> Services<M> {
     pub fn count(&self) -> usize
         ensures { result ≡ length (services_in self.now.desk) }
     {
-        1 + self.desk.others.len()
+        self.desk.services.len()
     }
 
     /// The service at this place in their order; `None` behind the last one.
     pub fn get(&self, place: usize) -> Option<&Service>
         ensures { option_map (λ service. service.now) result ≡ slice_get (services_in self.now.desk) place }
     {
-        match place.checked_sub(1) {
-            None => Some(&self.desk.first),
-            Some(place) => self.desk.others.get(place),
-        }
+        self.desk.services.get(place)
     }
 
     /// Why the automation is not listened to any more; `None` while its session is open.

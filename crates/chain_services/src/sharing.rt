@@ -94,10 +94,6 @@ impl<M: Allocator> Desk<M> {
         ensures { (ts : List ServiceTerms) (steps : List Step) → AllServe (services_in self.now) ts steps
             → result ≡ share_a_pid (configs_of ts) (packets_in steps) }
     {
-        let others = self.others.as_slice();
-        if one_shares(&self.first, others) {
-            return true;
-        }
-        share_a_pid(others)
+        share_a_pid(self.services.as_slice())
     }
 }

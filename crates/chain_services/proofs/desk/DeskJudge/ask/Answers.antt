@@ -10,7 +10,7 @@ use Rattle.chain_services.proofs.desk.DeskJudge.ask.Goals as goal
 pub returns : goal.returns
 returns g c = record {
   goes = λ ts steps apart h.
-      let (says, serve) = c.judge-reply.ensures.judged ts steps apart h.services in
+      let (says, serve, none) = c.judge-reply.ensures.judged ts steps apart h.services h.none in
       let rs = replies_by (reply_by ts) steps in
       let now = c.counted-self.result in
       let before = subst (λ n. CountsReplies n.messages n.accepted n.refused rs) (sym c.judge-reply.ensures.counts) h.counts in
@@ -18,6 +18,7 @@ returns g c = record {
         says,
         record {
           services = serve;
+          none = none;
           counts = subst (λ r. CountsReplies now.messages now.accepted now.refused (rs ++ r ∷ [])) says counted;
           owners = subst (λ o. HasOwners o ts (packets_in steps)) (sym c.judge-reply.ensures.owners) h.owners;
           quiet = λ e. absurd (true≢false e);

@@ -7,7 +7,7 @@ use Rattle.chain_engine.proofs.StepsLemmas.{before_packets}
 use Rattle.service_laws.specs.Services.{configs_of, given_at, services_send}
 use Rattle.service_laws.specs.Faults.{share_a_pid}
 use Rattle.chain_services.specs.Owners.{HasOwners}
-use Rattle.chain_services.specs.Serving.{AllServe, DeskJudges, CountsReplies, reply_by}
+use Rattle.chain_services.specs.Serving.{AllServe, AnswersNone, DeskJudges, CountsReplies, reply_by}
 use Rattle.chain_services.specs.Stages.{DeskServes, terms_in}
 use Rattle.chain_services.proofs.ApartLemmas.{share_same}
 use Rattle.chain_services.proofs.PartLemmas.{behind_part}
@@ -50,6 +50,7 @@ returns-then-not-learns-clause-ok g c = λ first ps qs start before s is_held.
     let done = c.in-Ok.ensures.ok ts steps start (before ++ qs) s.1.filed apart gone is_held in (
       record {
         services = done.0;
+        none = subst (λ w. AnswersNone w ts) (sym c.pass.ensures.none) gone.none;
         counts = subst (λ n. CountsReplies n.messages n.accepted n.refused (replies_by (reply_by ts) steps)) (sym c.pass.ensures.counts) gone.counts;
         owners = subst (λ o. HasOwners o ts (p ∷ packets_in steps)) (sym c.pass.ensures.owners) (owners-same desk.owners ts p (packets_in steps) (done.2 quiet) gone.owners);
         quiet = λ e. tt;
@@ -75,6 +76,7 @@ returns-then-share_a_pid-clause-err g c = λ first ps qs start before s is_held.
     services_share _ first ts exchanged ps qs p desk c.hear.new.self.talk here (λ w. refl) _ _ (λ l. holds (before ++ l)) (λ sent r. r) c.learn.new.self
     (record {
       services = serve;
+      none = subst (λ w. AnswersNone w ts) (sym (c.learn.ensures.none ∙ c.pass.ensures.none)) here.gone.none;
       counts = subst (λ n. CountsReplies n.messages n.accepted n.refused (replies_by (reply_by ts) steps)) (sym (c.learn.ensures.counts ∙ c.pass.ensures.counts)) here.gone.counts;
       owners = c.learn.ensures.owners ts (PacketStep p ∷ steps) done.0;
       quiet = λ e. tt;
@@ -99,6 +101,7 @@ returns-clause-ok g c = λ first ps qs start before s is_held.
     let serve = subst (λ l. AllServe l ts (PacketStep p ∷ steps)) (sym c.learn.ensures.services) done.0 in (
       record {
         services = serve;
+        none = subst (λ w. AnswersNone w ts) (sym (c.learn.ensures.none ∙ c.pass.ensures.none)) gone.none;
         counts = subst (λ n. CountsReplies n.messages n.accepted n.refused (replies_by (reply_by ts) steps)) (sym (c.learn.ensures.counts ∙ c.pass.ensures.counts)) gone.counts;
         owners = c.learn.ensures.owners ts (PacketStep p ∷ steps) done.0;
         quiet = λ e. tt;
