@@ -17,14 +17,14 @@ use Rattle.chain_engine.specs.declared.hearing.SessionEnd.{SessionEnd}
 use Rattle.chain_engine.specs.declared.talk.Talk.{Talk}
 use Rattle.chain_engine.proofs.StepsLemmas.{before_packets, steps_packets}
 use Rattle.chain_engine.proofs.RunLemmas.{begun}
-use Rattle.chain_services.specs.Serving.{FiledAs, CountsReplies}
+use Rattle.chain_services.specs.Serving.{FiledAs, AnswersNone, CountsReplies}
 use Rattle.chain_services.specs.declared.report.ServiceReport.{ServiceReport}
 use Rattle.on_air.specs.declared.report.AirReport.{AirReport}
 use Rattle.services_on_air.specs.Airing.{Airing, nexts, owns, airings}
 use Rattle.services_on_air.specs.Standing.{AllSettled}
 use Rattle.services_on_air.specs.Histories.{Gone, nothing_gone}
 use Rattle.services_on_air.specs.Outputs.{gones_behind, ended_before, put_by_each, put_for_all, services_air, services_air_to_end, services_reply, left_by_each, AllEventsOnAir, lost_among, ServicesOnAir}
-use Rattle.services_on_air.specs.Serving.{AllGone, DeskGone, AnswersNone, gones_ahead, gones_on, nothings_gone, AirServicesBegin, ServicesGone, ServicesHeard, ServicesEnded, RunsSoFar, air_behind, air_ahead, air_to_end}
+use Rattle.services_on_air.specs.Serving.{AllGone, DeskGone, gones_ahead, gones_on, nothings_gone, AirServicesBegin, ServicesGone, ServicesHeard, ServicesEnded, RunsSoFar, air_behind, air_ahead, air_to_end}
 use Rattle.services_on_air.specs.declared.desk.AirDesk.{AirDesk}
 use Rattle.services_on_air.specs.declared.services.AirServices.{AirServices}
 use Rattle.services_on_air.proofs.HistoryLemmas.{gones-on, gones-parted, puts-last}

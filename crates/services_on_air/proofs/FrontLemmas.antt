@@ -1,6 +1,6 @@
 -- Services that take a packet, behind some that do not: these stay as they are.
-use Rattle.std.proofs.Common.{◌≡◌, ◌+◌, ◌/◌, ℕ, length, List, [], ◌∷◌, ◌++◌, Bool, true, false, ◌||◌, take, drop, refl, sym, ap, subst, ◌∙◌, arith}
-use Rattle.std.specs.Prelude.{if◌then◌else◌, Result, Ok, Err, OnOk, IfOk, Option, Some, None, IfSome}
+use Rattle.std.proofs.Common.{◌≡◌, ◌+◌, ◌/◌, ℕ, length, List, [], ◌∷◌, ◌++◌, Bool, true, false, ◌||◌, drop, refl, sym, ap, subst, ◌∙◌, arith}
+use Rattle.std.specs.Prelude.{if◌then◌else◌, Result, Ok, Err, OnOk}
 use Rattle.std.specs.List.{list_any}
 use Rattle.std.proofs.lemmas.List.{length-append}
 use lib.Seq.{drop-append_seam}
@@ -208,21 +208,6 @@ fewer-behind l front back x f y n whole many long one other = let e = ap length 
 pub on-ok : {T E : Type 0} (r : Result T E) (P Q : Type 0) → (P → Q) → OnOk r P → OnOk r Q
 on-ok (Ok x) P Q so h = so h
 on-ok (Err e) P Q so h = tt
-
-pub if-some : {T : Type 0} (o : Option T) (P Q : T → Type 0) → ((x : T) → P x → Q x) → IfSome o P → IfSome o Q
-if-some (Some x) P Q so h = so x h
-if-some None P Q so h = tt
-
-pub if-both-some : {T : Type 0} (o : Option T) (P Q R : T → Type 0) → ((x : T) → P x → Q x → R x) → IfSome o P → IfSome o Q → IfSome o R
-if-both-some (Some x) P Q R so p q = so x p q
-if-both-some None P Q R so p q = tt
-
-pub if-both-ok : {T E : Type 0} (r : Result T E) (P Q R : T → Type 0) → ((x : T) → P x → Q x → R x) → IfOk r P → IfOk r Q → IfOk r R
-if-both-ok (Ok x) P Q R so p q = so x p q
-if-both-ok (Err e) P Q R so p q = tt
-
-pub none-said : {T : Type 0} (o : Option T) (P : T → Type 0) → o ≡ None → IfSome o P
-none-said o P none = subst (λ x. IfSome x P) (sym none) tt
 
 -- ---- the one that alone takes the packet
 

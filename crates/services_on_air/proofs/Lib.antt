@@ -11,4 +11,5 @@ mod BesideLemmas
 mod OwnerLemmas
 mod StayLemmas
 mod FrontLemmas
+mod TakenLemmas
 mod AloneLemmas

@@ -11,10 +11,11 @@ use Rattle.scte104_codec.specs.declared.reply.Reply.{Reply}
 use Rattle.injector.specs.declared.requests.Requests.{Requests}
 use Rattle.chain_engine.specs.Judging.{JudgesAll}
 use Rattle.chain_services.specs.Owners.{AllTake, IsShifted}
+use Rattle.chain_services.specs.Serving.{AnswersNone}
 use Rattle.services_on_air.specs.Airing.{Airing, nexts, learns}
 use Rattle.service_laws.specs.Services.{ServiceTerms}
 use Rattle.services_on_air.specs.Histories.{Gone, begins_anew}
-use Rattle.services_on_air.specs.Serving.{AllGone, AnswersNone, DeskGone}
+use Rattle.services_on_air.specs.Serving.{AllGone, DeskGone}
 use Rattle.services_on_air.specs.Standing.{AirDeskJudges, DeskLeavesOut, StillTold}
 use Rattle.services_on_air.specs.Owners.{IsBeside, IsBesideAhead, LeavesOutOnAir, IsToldBy, HasOwnersOnAir, HasOwnersAhead, AllJudged, MayStay, MayAllStay, IsLeftOut, AreLeftOut}
 use Rattle.services_on_air.specs.declared.service.AirService.{AirService}
@@ -161,7 +162,7 @@ left-all owners takers pid asks all ss ys known open_so told left none =
     let is = known (open_so none) in subst (λ n. AreLeftOut n ss pid ys) (sym is) (left (open_so none) (subst (λ n. n < 255) is (told none)))
 
 -- where one alone takes it, not all do
-not-all : (count takers : ℕ) → IsShifted count 1 takers → takers < 256 → takers < 255
+pub not-all : (count takers : ℕ) → IsShifted count 1 takers → takers < 256 → takers < 255
 not-all zero takers one small = let e : 1 ≡ takers = one in omega (arith, e)
 not-all (suc count) takers shifted small = let even = shifted.0 in omega (arith, even, small)
 

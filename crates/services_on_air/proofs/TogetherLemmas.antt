@@ -1,6 +1,6 @@
 -- Several services, one after another: how far each has come.
 use Rattle.std.proofs.Common.{◌≡◌, ℕ, ◌+◌, ◌==◌, List, [], ◌∷◌, ◌++◌, Bool, true, false, Option, None, Some, refl, sym, ap, subst, ◌∙◌, arith, append_assoc}
-use Rattle.std.specs.Prelude.{if◌then◌else◌, Result, OnOk, slice_get}
+use Rattle.std.specs.Prelude.{if◌then◌else◌, Result, OnOk}
 use Rattle.std.proofs.lemmas.Result.{on_ok_weaker}
 use Rattle.std.proofs.lemmas.Bool.{or_parts, or_from, or_left, or_right}
 use Rattle.psi_section.specs.Assembling.{capped}
@@ -11,17 +11,17 @@ use Rattle.injector.specs.Replies.{reply_to}
 use Rattle.injector.specs.Requests.{RequestsStandFor}
 use Rattle.injector.specs.Turns.{Turn, Judged}
 use Rattle.injector.specs.declared.requests.Requests.{Requests}
-use Rattle.injector.specs.Steps.{Message, turns_in}
+use Rattle.injector.specs.Steps.{turns_in}
 use Rattle.ad_library.specs.declared.library.AdLibrary.{AdLibrary}
 use Rattle.ad_library.specs.Library.{held}
 use Rattle.service_laws.specs.Messages.{is_for, reply_of_none}
 use Rattle.service_laws.specs.Services.{ServiceTerms, configs_of}
-use Rattle.service_laws.proofs.MessageLemmas.{others_reply}
-use Rattle.chain_services.specs.Serving.{FiledAs}
+use Rattle.chain_services.proofs.ServingLemmas.{answers_none}
+use Rattle.chain_services.specs.Serving.{FiledAs, AnswersNone}
 use Rattle.chain_services.specs.declared.report.ServiceEvents.{ServiceEvents}
 use Rattle.services_on_air.specs.Histories.{Gone, HasGone, nothing_gone, gone_asked}
 use Rattle.services_on_air.specs.Outputs.{lost_among, EventsOnAir}
-use Rattle.services_on_air.specs.Serving.{AllGone, nothings_gone, gones_asked, reply_by_gone, one_is_for, AskedOnAir, AnswersNone, HasIndexOf, AddsOnAir}
+use Rattle.services_on_air.specs.Serving.{AllGone, nothings_gone, gones_asked, reply_by_gone, one_is_for, AskedOnAir, AddsOnAir}
 use Rattle.services_on_air.specs.declared.service.AirService.{AirService}
 
 -- ---- the first of them and the others
@@ -119,11 +119,6 @@ none-asked (s ∷ ss) (t ∷ ts) (g ∷ gs) m not_so h =
       ap (λ b. if b then gone_asked m g ∷ gs else g ∷ gones_asked ts m gs) parts.0 ∙ ap (λ l. g ∷ l) same,
     )
 
--- and not for the first
-pub not-first : (index : ℕ) (ts : List ServiceTerms) (m : MessageReading) → HasIndexOf index ts → one_is_for ts m ≡ false → is_for index m ≡ false
-not-first index [] m h not_so = absurd h
-not-first index (t ∷ ts) m h not_so = ap (λ i. is_for i m) h ∙ (or_parts (is_for t.config.index m) (one_is_for ts m) not_so).0
-
 -- without an index it is for none
 pub no-index : (m : MessageReading) (ts : List ServiceTerms) → ((i : ℕ) → is_for i m ≡ false) → one_is_for ts m ≡ false
 no-index m [] told = refl
@@ -162,11 +157,9 @@ pub answered-none : (items : List AirService) (none now : Requests) (ts : List S
     → ((index : ℕ) (past : List Turn) → RequestsStandFor none index past → RequestsStandFor now index (Judged m ∷ past)) → AllGone items ts gs → AnswersNone none ts
     → (r ≡ reply_by_gone ts gs m) × AllGone items ts (gones_asked ts m gs) × AnswersNone now ts
 answered-none items none now ts gs m r not_so says turn h n =
-    let (told, same) = none-asked items ts gs m not_so h in (
-      says n.index (turns_in 0 n.steps) n.stands ∙ others_reply 0 n.index m n.steps (not-first n.index ts m n.is_first not_so) ∙ sym told,
-      subst (AllGone items ts) (sym same) h,
-      record { index = n.index; steps = Message m ∷ n.steps; is_first = n.is_first; stands = turn n.index (turns_in 0 n.steps) n.stands },
-    )
+    let (told, same) = none-asked items ts gs m not_so h in
+    let (is, answers) = answers_none none now ts m r not_so says turn n in
+    (is ∙ sym told, subst (AllGone items ts) (sym same) h, answers)
 
 -- ---- services that begin
 
@@ -188,12 +181,3 @@ added-gone r items mid now s c cs configs before ts gs shape is are new all goes
 pub adds-first : (before mid now : List ServiceEvents) (e : ServiceEvents) (t : ServiceTerms) (ts : List ServiceTerms) (g : Gone) (gs : List Gone) → mid ≡ before ++ e ∷ [] → EventsOnAir e t g
     → AddsOnAir mid now ts gs → AddsOnAir before now (t ∷ ts) (g ∷ gs)
 adds-first before mid now e t ts g gs is one (more, adds, them) = (e ∷ more, adds ∙ ap (λ l. l ++ more) is ∙ append_assoc before (e ∷ []) more, (one, them))
-
--- ---- the first configuration
-
-pub first-index : (ts : List ServiceTerms) (configs : List Config) (c : Config) → configs_of ts ≡ configs → slice_get configs 0 ≡ Some c → HasIndexOf c.index ts
-first-index [] configs c e f = let not_so : None ≡ Some c = ap (λ (l : List Config). slice_get l 0) e ∙ f in absurd (cc)
-first-index (t ∷ ts) configs c e f =
-    let same : Some t.config ≡ Some c = ap (λ (l : List Config). slice_get l 0) e ∙ f in
-    let one : t.config ≡ c = cc in
-    ap (λ (d : Config). d.index) (sym one)

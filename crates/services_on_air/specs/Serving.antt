@@ -5,16 +5,14 @@ use Rattle.psi_tables.specs.declared.config.Config.{Config}
 use Rattle.scte104_codec.specs.Reading.{MessageReading}
 use Rattle.scte104_codec.specs.declared.reply.Reply.{Reply}
 use Rattle.injector.specs.Replies.{reply_to}
-use Rattle.injector.specs.Requests.{RequestsStandFor}
 use Rattle.injector.specs.Steps.{Step, turns_in}
-use Rattle.injector.specs.declared.requests.Requests.{Requests}
 use Rattle.service_laws.specs.Messages.{is_for, reply_of_none, share_an_index}
 use Rattle.service_laws.specs.Services.{ServiceTerms, configs_of}
 use Rattle.chain_engine.specs.Automation.{Take}
 use Rattle.chain_engine.specs.Talks.{TalkStandsFor}
 use Rattle.chain_engine.specs.Runs.{steps_of, steps_before}
 use Rattle.chain_engine.specs.declared.hearing.SessionEnd.{SessionEnd}
-use Rattle.chain_services.specs.Serving.{CountsReplies}
+use Rattle.chain_services.specs.Serving.{AnswersNone, CountsReplies}
 use Rattle.chain_services.specs.declared.report.ServiceEvents.{ServiceEvents}
 use Rattle.chain_services.specs.declared.report.ServiceReport.{ServiceReport}
 use Rattle.on_air.specs.declared.report.AirReport.{AirReport}
@@ -104,17 +102,6 @@ reply_by_gone (t ∷ ts) (g ∷ gs) m = if is_for t.config.index m
 abbrev pub AskedOnAir : Option Reply → List AirService → List ServiceTerms → List Gone → MessageReading → Type 0
 AskedOnAir None services ts gs m = (one_is_for ts m ≡ false) × AllGone services ts gs
 AskedOnAir (Some r) services ts gs m = (one_is_for ts m ≡ true) × (r ≡ reply_by_gone ts gs m) × AllGone services ts (gones_asked ts m gs)
-
--- what answers the messages for none has the index of the first service, and judged messages
-abbrev pub HasIndexOf : ℕ → List ServiceTerms → Type 0
-HasIndexOf index [] = ⊥
-HasIndexOf index (t ∷ ts) = index ≡ t.config.index
-
-pub record AnswersNone (none : Requests) (ts : List ServiceTerms) : Type 0 where
-  pub index : ℕ
-  pub steps : List Step
-  pub is_first : HasIndexOf index ts
-  pub stands : RequestsStandFor none index (turns_in 0 steps)
 
 pub record DeskGone {M : Type 0} (desk : AirDesk M) (ts : List ServiceTerms) (gs : List Gone) : Type 0 where
   pub all : AllGone desk.services.items ts gs

@@ -1,5 +1,5 @@
 -- What several services on air stand for, packet by packet.
-use Rattle.std.specs.Prelude.{◌≡◌, ◌<◌, ℕ, ◌+◌, List, [], ◌∷◌, ◌++◌, reverse, length, Option, IfSome, true, false, not, slice_index_or}
+use Rattle.std.specs.Prelude.{◌≡◌, ◌<◌, ℕ, ◌+◌, List, [], ◌∷◌, ◌++◌, reverse, length, true, false, not, slice_index_or}
 use Rattle.std.specs.List.{list_any}
 use Rattle.ts_packet.specs.Fields.{pid_of}
 use Rattle.ts_packet.specs.Packets.{packets_of}
@@ -23,6 +23,8 @@ use Rattle.services_on_air.specs.Serving.{DeskGone, gones_asked, reply_by_gone}
 use Rattle.services_on_air.specs.Owners.{HasOwnersOnAir, HasOwnersAhead, AllJudged, AreLeftOut, TakerGoesOn}
 use Rattle.services_on_air.specs.declared.service.AirService.{AirService}
 use Rattle.services_on_air.specs.declared.service.Passed.{Passed}
+use Rattle.services_on_air.specs.declared.passing.Still.{Still}
+use Rattle.services_on_air.specs.declared.passing.Still.TheVariants.{Beside, Taken}
 use Rattle.chain_services.specs.declared.owners.Alone.{Alone}
 use Rattle.services_on_air.specs.declared.desk.AirDesk.{AirDesk}
 use Rattle.services_on_air.specs.declared.services.AirServices.{AirServices}
@@ -107,6 +109,15 @@ StillTold desk takers p = desk.asks_all ≡ false → takers ≡ slice_index_or 
 
 abbrev pub StillGoesOn : {M : Type 0} → AirDesk M → ℕ → Alone → List ℕ → Type 0
 StillGoesOn desk takers alone p = desk.asks_all ≡ false → TakerGoesOn takers alone desk.services.items p
+
+-- how a packet passes that is settled for each service as it stands: none takes it, or one alone, for which it goes on in one of its streams
+abbrev pub IsStill : Still → ℕ → Type 0
+IsStill Beside takers = takers ≡ 0
+IsStill (Taken alone) takers = alone.stream < 8
+
+abbrev pub TakerIsStill : {M : Type 0} → AirDesk M → Still → ℕ → List ℕ → Type 0
+TakerIsStill desk Beside takers p = Unit {0}
+TakerIsStill desk (Taken alone) takers p = StillGoesOn desk takers alone p
 
 -- and unless all are to be shown the next one, none left the last one unjudged
 abbrev pub DeskJudged : {M : Type 0} → AirDesk M → Type 0

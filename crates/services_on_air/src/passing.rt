@@ -14,8 +14,17 @@ ghost use Rattle.services_on_air.specs.Serving.{AllGone, gones_on, puts_on};
 use crate::service::{AirService, Passed};
 use ad_library::AdLibrary;
 use chain_engine::of_bytes;
-use chain_services::{leaves_out, leaves_out_all, shift_of};
+use chain_services::{Alone, leaves_out, leaves_out_all, shift_of};
 use ts_packet::{Packet, PacketSink, PutFault};
+
+/// How a packet passes that is settled for each service as it stands.
+#[derive(Clone, Copy, Debug, PartialEq, Eq)]
+pub(crate) enum Still {
+    /// No service takes it.
+    Beside,
+    /// One service alone takes it, and it goes on alone for that one.
+    Taken(Alone),
+}
 
 /// Passes a packet on through a service, unless it is left out: it changes nothing of the service then.
 ///
@@ -160,6 +169,7 @@ pub(crate) fn go_on_first<K: PacketSink>(
         → OnOk result (AllGone services.new ts (gones_on ts packet.now ys gs)
         × K.holds out.new start (ps ++ puts_on ts packet.now ys gs)) }
     ensures alone { IfOk result (λ passed. (passed.is_own ≡ true) × (passed.has_left ≡ false)) }
+    ensures still { IfOk result (λ passed. (passed.learns ≡ false) × (passed.is_unjudged ≡ false)) }
 {
     of_bytes(packet);
     let Some((service, _others)) = services.split_first_mut() else {

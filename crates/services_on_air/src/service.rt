@@ -27,7 +27,7 @@ use crate::watch::{ServiceBegun, ServicesWatch, Shown};
 use ad_library::AdLibrary;
 use arrayvec::ArrayVec;
 use chain_engine::{Judge, RunFault, Service, put_fault};
-use chain_services::{Alone, Nowhere};
+use chain_services::Nowhere;
 use on_air::{MapTail, Marks, Standing, Verdict};
 use psi_tables::{Config, FeedFault};
 use scte104_codec::{BadMessage, Message, Reply};
@@ -98,29 +98,6 @@ impl Passed {
             is_unjudged,
             learns: self.learns || other.learns,
             has_left: self.has_left || other.has_left,
-        }
-    }
-}
-
-/// What a packet is that was settled.
-#[derive(Clone, Copy, Debug, PartialEq, Eq)]
-pub(crate) struct Settled {
-    /// A stretch begins with it.
-    pub(crate) is_anew: bool,
-    /// Which service alone takes it, where it goes on alone for that one; `None` where it does not, or that is open.
-    pub(crate) goes_on: Option<Alone>,
-}
-
-impl Settled {
-    /// Of a packet of which it is open whether it goes on.
-    #[inline(always)]
-    pub(crate) fn of(is_anew: bool) -> Settled
-        ensures anew { result.is_anew ≡ is_anew }
-        ensures none { result.goes_on ≡ None }
-    {
-        Settled {
-            is_anew,
-            goes_on: None,
         }
     }
 }
@@ -343,9 +320,9 @@ impl AirService {
             → IfSome result (λ _. Becomes Verdict.Judged self.now.marks (writing_cues c) packet.now past) }
         ensures goes_on { IfSome result (λ _. (self.now.is_empty ≡ false) × (self.now.shares ≡ false)) }
         ensures below { IfSome result (λ stream. stream < 8) }
-        ensures alone { IfSome result (λ stream. GoesOnBy self.now.service stream packet.now) }
+        ensures alone { IfSome result (λ stream. (self.now.is_unjudged ≡ false) × GoesOnBy self.now.service stream packet.now) }
     {
-        if self.is_empty || self.shares || self.marks.has_any() {
+        if self.is_empty || self.shares || self.is_unjudged || self.marks.has_any() {
             return None;
         }
         match self.service.goes_on(packet) {
@@ -354,44 +331,18 @@ impl AirService {
         }
     }
 
-    /// Does what [`AirService::settle`] does for a packet that this service alone takes, before which so many services stand, and tells in which
-    /// stream the packet goes on alone.
-    ///
-    /// # Errors
-    ///
-    /// The sink's.
+    /// The number of the switched stream in which the next packet goes on alone, where it is settled as the service stands; `None` where it is no
+    /// such packet, or that is open.
     #[inline(always)]
-    pub(crate) fn settle_alone<K: PacketSink, A: ServicesWatch>(
-        &mut self,
-        count: usize,
-        next: Numbered<'_>,
-        library: &AdLibrary,
-        out: &mut K,
-        watch: &mut A,
-    ) -> Result<Settled, PutFault>
-        ensures leads { K.leads out.old out.new }
-        ensures stands { (a : Airing) → AirStandsFor self.old a
-            → OnOk result (IsSettled self.new next.entry.packet.now (next_of next.entry.packet.now a)) }
-        ensures out { (a : Airing) (t : ServiceTerms) (g : Gone) (start : Option (List ℕ)) (ps : List (List ℕ)) → AirStandsFor self.old a
-            → held library.now ≡ t.filed → HasGone self.old t g → K.holds out.old start ps
-            → OnOk result (HasGone self.new t (gone_settled t (begins_anew next.entry.packet.now a) g)
-            × K.holds out.new start (ps ++ put_settled t (begins_anew next.entry.packet.now a) g)) }
-        ensures anew { (a : Airing) → AirStandsFor self.old a → IfOk result (λ settled. settled.is_anew ≡ begins_anew next.entry.packet.now a) }
-        ensures below { IfOk result (λ settled. IfSome settled.goes_on (λ alone. alone.stream < 8)) }
-        ensures count { IfOk result (λ settled. IfSome settled.goes_on (λ alone. alone.count ≡ count)) }
-        ensures alone { IfOk result (λ settled. IfSome settled.goes_on (λ alone. (self.new.is_unjudged ≡ false)
-            × GoesOnBy self.new.service alone.stream next.entry.packet.now)) }
+    pub(crate) fn stays_still(&self, packet: &Packet) -> Option<usize>
+        ensures below { IfSome result (λ stream. stream < 8) }
+        ensures alone { IfSome result (λ stream. (self.now.is_unjudged ≡ false) × GoesOnBy self.now.service stream packet.now) }
+        ensures settled { (a : Airing) → AirStandsFor self.now a → IfSome result (λ _. IsSettled self.now packet.now (next_of packet.now a)) }
+        ensures anew { (a : Airing) → AirStandsFor self.now a → IfSome result (λ _. begins_anew packet.now a ≡ false) }
     {
-        if let Some(stream) = self.just_goes_on(next.packet) {
-            self.is_unjudged = false;
-            return Ok(Settled {
-                is_anew: false,
-                goes_on: Some(Alone { count, stream }),
-            });
-        }
-        match self.settle(next, library, out, watch) {
-            Ok(is_anew) => Ok(Settled::of(is_anew)),
-            Err(fault) => Err(fault),
+        match self.just_goes_on(packet) {
+            Some(stream) => Some(stream),
+            None => None,
         }
     }
 
@@ -573,22 +524,6 @@ impl AirService {
         }
     }
 
-    /// The number of the switched stream in which the packet that was settled goes on alone, where it is judged.
-    #[inline(always)]
-    fn goes_on(&self, packet: &Packet) -> Option<usize>
-        ensures below { IfSome result (λ stream. stream < 8) }
-        ensures judged { IfSome result (λ _. self.now.is_unjudged ≡ false) }
-        ensures alone { IfSome result (λ stream. GoesOnBy self.now.service stream packet.now) }
-    {
-        if self.is_unjudged {
-            return None;
-        }
-        match self.service.goes_on(packet) {
-            Some(stream) => Some(stream),
-            None => None,
-        }
-    }
-
     /// Passes the packet on that was settled and is judged, and goes on alone in the stream of this number: it is of its own, brings no part of a
     /// section of its map, and no PID more is known with it.
     ///
@@ -613,6 +548,7 @@ impl AirService {
             × K.holds out.new start (ps ++ put_own passed.is_own t (judged packet.now) g)) }
         ensures left { self.old.is_unjudged ≡ false → IfOk result (λ passed. passed.has_left ≡ self.new.is_unjudged) }
         ensures alone { IfOk result (λ passed. (passed.is_own ≡ true) × (passed.has_left ≡ false)) }
+        ensures still { IfOk result (λ passed. (passed.learns ≡ false) × (passed.is_unjudged ≡ false)) }
     {
         match self.service.go_on(stream, packet, library, out) {
             Ok(()) => Ok(Passed::alone()),
@@ -627,7 +563,7 @@ impl AirService {
     ///
     /// The sink's.
     #[inline(never)]
-    fn pass_closely<K: PacketSink>(
+    pub(crate) fn pass<K: PacketSink>(
         &mut self,
         packet: &Packet,
         library: &AdLibrary,
@@ -650,33 +586,6 @@ impl AirService {
             return Ok(Passed::beside());
         }
         self.pass_and_tell(false, known, packet, library, &mut Nowhere)
-    }
-
-    /// Passes the packet on that was settled: what it sends goes out where the packet is on one of its PIDs, and is the packet else.
-    ///
-    /// # Errors
-    ///
-    /// The sink's.
-    #[inline(always)]
-    pub(crate) fn pass<K: PacketSink>(
-        &mut self,
-        packet: &Packet,
-        library: &AdLibrary,
-        out: &mut K,
-    ) -> Result<Passed, PutFault>
-        ensures leads { K.leads out.old out.new }
-        ensures stands { (a : Airing) → IsSettled self.old packet.now a
-            → IfOk result (λ passed. AirStandsFor self.new a × IsPassed passed packet.now a) }
-        ensures out { (t : ServiceTerms) (g : Gone) (start : Option (List ℕ)) (ps : List (List ℕ)) → held library.now ≡ t.filed
-            → HasGone self.old t g → K.holds out.old start ps
-            → IfOk result (λ passed. HasGone self.new t (gone_on t (aired_as packet.now self.old.is_unjudged) g)
-            × K.holds out.new start (ps ++ put_own passed.is_own t (aired_as packet.now self.old.is_unjudged) g)) }
-        ensures left { IfOk result (λ passed. passed.has_left ≡ self.new.is_unjudged) }
-    {
-        if let Some(stream) = self.goes_on(packet) {
-            return self.pass_alone(stream, packet, library, out);
-        }
-        self.pass_closely(packet, library, out)
     }
 
     /// Puts what is left of the advertisements that run, and tells what became of the events of all its stretches.

@@ -15,16 +15,18 @@ ghost use Rattle.psi_tables.specs.declared.config.Config.{Config};
 ghost use Rattle.chain_services.specs.Refused.{services_refused, IsRefused};
 ghost use Rattle.services_on_air.specs.Airing.{Airing, begins, parted, begun_in};
 ghost use Rattle.services_on_air.specs.Standing.{AirStandsFor, IsSettled, IsPassed, AllStand, AllSettled, ArePassed};
-ghost use Rattle.services_on_air.specs.Standing.{DeskJudged, AirServicesStandFor, AreSettled, StillTold, StillGoesOn, HavePassed, TellsOfAll};
+ghost use Rattle.services_on_air.specs.Standing.{DeskJudged, AirServicesStandFor, AreSettled, StillTold, StillGoesOn, IsStill, TakerIsStill};
+ghost use Rattle.services_on_air.specs.Standing.{HavePassed, TellsOfAll};
 ghost use Rattle.services_on_air.specs.Owners.{HasOwnersOnAir, AllJudged, IsLeftOut, AreLeftOut, FirstGoesOnAir, TakerGoesOn};
 ghost use Rattle.services_on_air.specs.Histories.{Gone, HasGone, gone_on, put_own, aired_as};
 ghost use Rattle.services_on_air.specs.Outputs.{lost_among};
+ghost use Rattle.services_on_air.specs.declared.service.Passed.{Passed};
 ghost use Rattle.services_on_air.specs.Serving.{AllGone, DeskGone, nothings_gone, gones_on, puts_on, puts_last};
 ghost use Rattle.services_on_air.specs.Serving.{AddsOnAir, AirServicesBegin, ServicesGone, ServicesSettled, ServicesHeard, ServicesEnded};
 ghost use Rattle.services_on_air.specs.Serving.{HearsAll, RunsSoFar, air_behind, air_ahead, air_to_end};
 
 use crate::desk::AirDesk;
-use crate::passing::{go_on_first, pass_some};
+use crate::passing::{Still, go_on_first, pass_some};
 use crate::service::{AirService, Numbered, Passed};
 use crate::settling::settle_some;
 use crate::sharing::part_each;
@@ -33,7 +35,7 @@ use ad_library::AdLibrary;
 use arrayvec::ArrayVec;
 use chain_engine::{Automation, OutOfMemory, Talk, of_bytes};
 use chain_services::{
-    Alone, Owners, ServiceEvents, ServiceFault, ServiceReport, Services, takes_all,
+    Alone, Owners, ServiceEvents, ServiceFault, ServiceReport, Services, shift_of, takes_all,
 };
 use injector::{MessageCounts, Requests};
 use on_air::AirReport;
@@ -121,9 +123,20 @@ fn show_each<A: ServicesWatch>(
     watch: &mut A,
 ) {
     if watch.looks(packet) {
-        for (service, library) in services.iter().zip(libraries.iter()) {
-            service.show(library, packet, watch);
-        }
+        show_all(services, libraries, packet, watch);
+    }
+}
+
+/// Shows each of these services. It stands by itself, since few packets are looked at.
+#[inline(never)]
+fn show_all<A: ServicesWatch>(
+    services: &[AirService],
+    libraries: &[AdLibrary],
+    packet: &Packet,
+    watch: &mut A,
+) {
+    for (service, library) in services.iter().zip(libraries.iter()) {
+        service.show(library, packet, watch);
     }
 }
 
@@ -214,7 +227,7 @@ impl<M: Allocator + Copy> AirServices<M> {
 }
 
 impl<M: Allocator> AirServices<M> {
-    /// Settles for each service what becomes of the next packet, which these take. Where one alone takes it, in which stream it goes on alone there.
+    /// Settles for each service what becomes of the next packet, which these take.
     ///
     /// # Errors
     ///
@@ -227,14 +240,11 @@ impl<M: Allocator> AirServices<M> {
         libraries: &[AdLibrary],
         out: &mut K,
         watch: &mut A,
-    ) -> Result<Option<Alone>, PutFault>
+    ) -> Result<(), PutFault>
         requires pid { pid_of next.packet.now < 8192 }
         requires takers { takers ≡ slice_index_or self.old.desk.owners (pid_of next.packet.now) 0 }
         ensures leads { K.leads out.old out.new }
         ensures told { OnOk result (StillTold self.new.desk takers next.entry.packet.now) }
-        ensures below { IfOk result (λ goes_on. IfSome goes_on (λ alone. alone.stream < 8)) }
-        ensures libraries { IfOk result (λ goes_on. IfSome goes_on (λ alone. alone.count ≤ length libraries.now)) }
-        ensures alone { IfOk result (λ goes_on. IfSome goes_on (λ alone. StillGoesOn self.new.desk takers alone next.entry.packet.now)) }
         ensures stands { (cs : List Config) (past : List (List ℕ)) → AirServicesStandFor self.old cs past → length libraries.now ≡ length cs
             → OnOk result (AreSettled self.new cs next.entry.packet.now past) }
         ensures out { (ts : List ServiceTerms) (past before : List (List ℕ)) (takes : List Take) (rs : List Reply) (start : Option (List ℕ))
@@ -247,9 +257,9 @@ impl<M: Allocator> AirServices<M> {
         let all = takes_all(self.desk.asks_all, takers);
         let services = self.desk.services.as_mut_slice();
         match settle_some(all, takers, services, libraries, next, out, watch) {
-            Ok(settled) => {
-                self.desk.settled(settled.is_anew);
-                Ok(settled.goes_on)
+            Ok(is_anew) => {
+                self.desk.settled(is_anew);
+                Ok(())
             }
             Err(fault) => Err(fault),
         }
@@ -331,7 +341,6 @@ impl<M: Allocator> AirServices<M> {
     ) -> Result<Passed, PutFault>
         requires below { alone.stream < 8 }
         requires quiet { self.old.desk.asks_all ≡ false }
-        requires libraries { alone.count ≤ length libraries.now }
         ensures leads { K.leads out.old out.new }
         ensures stands { (cs : List Config) (past : List (List ℕ)) → AreSettled self.old cs packet.now past → length libraries.now ≡ length cs
             → StillTold self.old.desk takers packet.now → StillGoesOn self.old.desk takers alone packet.now
@@ -343,12 +352,13 @@ impl<M: Allocator> AirServices<M> {
             → K.holds out.old start (before ++ air_ahead ts packet.now past (steps_before (length rs) takes past))
             → OnOk result (ServicesGone self.new ts (packet.now ∷ past) takes rs
             × K.holds out.new start (before ++ air_behind ts (packet.now ∷ past) takes rs)) }
+        ensures still { IfOk result (λ passed. (passed.learns ≡ false) × (passed.is_unjudged ≡ false)) }
         ensures talk { self.new.talk ≡ self.old.talk }
     {
         of_bytes(packet);
         let services = self.desk.services.as_mut_slice();
-        if alone.count > services.len() {
-            return Ok(Passed::alone());
+        if alone.count > services.len().min(libraries.len()) {
+            return Err(PutFault::Failed);
         }
         let (_, services) = services.split_at_mut(alone.count);
         let (_, libraries) = libraries.split_at(alone.count);
@@ -420,6 +430,24 @@ impl<M: Allocator> AirServices<M> {
         self.part(passed.learns, takers, last, watch);
     }
 
+    /// Shows and counts the packet that has passed as it was settled for each service: it was judged, and no PID more is known with it.
+    #[inline(always)]
+    fn passed_still<A: ServicesWatch>(
+        &mut self,
+        packet: &Packet,
+        libraries: &[AdLibrary],
+        watch: &mut A,
+    )
+        ensures stands { (cs : List Config) (past : List (List ℕ)) (told : Passed) → HavePassed self.old cs packet.now past told
+            → told.learns ≡ false → told.is_unjudged ≡ false → AirServicesStandFor self.new cs (packet.now ∷ past) }
+        ensures gone { (ts : List ServiceTerms) (past : List (List ℕ)) (takes : List Take) (rs : List Reply) → ServicesGone self.old ts past takes rs
+            → ServicesGone self.new ts past takes rs }
+        ensures talk { self.new.talk ≡ self.old.talk }
+    {
+        show_each(self.desk.services.as_slice(), libraries, packet, watch);
+        self.packets = self.packets.saturating_add(1);
+    }
+
     /// The next packet, which no service takes, is settled for each of them as it stands.
     #[inline(always)]
     fn settle_none(&self, takers: u8, packet: &Packet)
@@ -433,6 +461,65 @@ impl<M: Allocator> AirServices<M> {
             → ServicesSettled self.now ts packet.now past takes rs
             × (air_behind ts past takes rs ≡ air_ahead ts packet.now past (steps_of (length rs) takes past)) }
     {}
+
+    /// Which service alone takes the next packet, where the packet goes on alone for that one and is settled for each as it stands. `None` where it
+    /// is no such packet, or that is open.
+    #[inline(always)]
+    fn settle_taken(&self, takers: u8, packet: &Packet) -> Option<Alone>
+        requires pid { pid_of packet.now < 8192 }
+        requires takers { takers ≡ slice_index_or self.now.desk.owners (pid_of packet.now) 0 }
+        requires quiet { self.now.desk.asks_all ≡ false }
+        ensures below { IfSome result (λ alone. alone.stream < 8) }
+        ensures alone { IfSome result (λ alone. TakerGoesOn takers alone self.now.desk.services.items packet.now) }
+        ensures stands { (cs : List Config) (past : List (List ℕ)) → AirServicesStandFor self.now cs past
+            → IfSome result (λ _. AreSettled self.now cs packet.now past) }
+        ensures gone { (ts : List ServiceTerms) (past : List (List ℕ)) (takes : List Take) (rs : List Reply)
+            → AirServicesStandFor self.now (configs_of ts) past → ServicesGone self.now ts past takes rs
+            → IfSome result (λ _. ServicesSettled self.now ts packet.now past takes rs
+            × (air_behind ts past takes rs ≡ air_ahead ts packet.now past (steps_of (length rs) takes past))) }
+    {
+        let services = self.desk.services.as_slice();
+        let shift = shift_of(takers, services.len());
+        if shift.takers != 1 {
+            return None;
+        }
+        let (_front, behind) = services.split_at(shift.count);
+        let Some((service, _others)) = behind.split_first() else {
+            return None;
+        };
+        match service.stays_still(packet) {
+            Some(stream) => Some(Alone {
+                count: shift.count,
+                stream,
+            }),
+            None => None,
+        }
+    }
+
+    /// How the next packet passes, where it is settled for each service as it stands. `None` where it is no such packet, or that is open.
+    #[inline(always)]
+    fn settle_still(&self, takers: u8, packet: &Packet) -> Option<Still>
+        requires pid { pid_of packet.now < 8192 }
+        requires takers { takers ≡ slice_index_or self.now.desk.owners (pid_of packet.now) 0 }
+        requires quiet { self.now.desk.asks_all ≡ false }
+        ensures still { IfSome result (λ still. IsStill still takers) }
+        ensures taker { IfSome result (λ still. TakerIsStill self.now.desk still takers packet.now) }
+        ensures stands { (cs : List Config) (past : List (List ℕ)) → AirServicesStandFor self.now cs past
+            → IfSome result (λ _. AreSettled self.now cs packet.now past) }
+        ensures gone { (ts : List ServiceTerms) (past : List (List ℕ)) (takes : List Take) (rs : List Reply)
+            → AirServicesStandFor self.now (configs_of ts) past → ServicesGone self.now ts past takes rs
+            → IfSome result (λ _. ServicesSettled self.now ts packet.now past takes rs
+            × (air_behind ts past takes rs ≡ air_ahead ts packet.now past (steps_of (length rs) takes past))) }
+    {
+        if takers == 0 {
+            self.settle_none(takers, packet);
+            return Some(Still::Beside);
+        }
+        match self.settle_taken(takers, packet) {
+            Some(alone) => Some(Still::Taken(alone)),
+            None => None,
+        }
+    }
 
     /// Puts the packet that is settled and that no service takes, where no message was judged since.
     ///
@@ -457,11 +544,48 @@ impl<M: Allocator> AirServices<M> {
             → K.holds out.old start (before ++ air_ahead ts packet.now past (steps_before (length rs) takes past))
             → OnOk result (ServicesGone self.now ts (packet.now ∷ past) takes rs
             × K.holds out.new start (before ++ air_behind ts (packet.now ∷ past) takes rs)) }
+        ensures still { IfOk result (λ passed. (passed.learns ≡ false) × (passed.is_unjudged ≡ false)) }
     {
         of_bytes(packet);
         match out.put(packet) {
             Ok(()) => Ok(Passed::beside()),
             Err(fault) => Err(fault),
+        }
+    }
+
+    /// Passes the packet on that was settled for each service as it stands, where no message was judged since.
+    ///
+    /// # Errors
+    ///
+    /// The sink's.
+    #[inline(always)]
+    fn put_still<K: PacketSink>(
+        &mut self,
+        still: Still,
+        takers: u8,
+        packet: &Packet,
+        libraries: &[AdLibrary],
+        out: &mut K,
+    ) -> Result<Passed, PutFault>
+        requires still { IsStill still takers }
+        requires quiet { self.old.desk.asks_all ≡ false }
+        ensures leads { K.leads out.old out.new }
+        ensures stands { (cs : List Config) (past : List (List ℕ)) → AreSettled self.old cs packet.now past → length libraries.now ≡ length cs
+            → StillTold self.old.desk takers packet.now → TakerIsStill self.old.desk still takers packet.now
+            → IfOk result (HavePassed self.new cs packet.now past) }
+        ensures out { (ts : List ServiceTerms) (past before : List (List ℕ)) (takes : List Take) (rs : List Reply) (start : Option (List ℕ))
+            → AreSettled self.old (configs_of ts) packet.now past → FiledAs libraries.now ts
+            → ServicesHeard self.old ts packet.now past takes rs → StillTold self.old.desk takers packet.now
+            → TakerIsStill self.old.desk still takers packet.now
+            → K.holds out.old start (before ++ air_ahead ts packet.now past (steps_before (length rs) takes past))
+            → OnOk result (ServicesGone self.new ts (packet.now ∷ past) takes rs
+            × K.holds out.new start (before ++ air_behind ts (packet.now ∷ past) takes rs)) }
+        ensures still { IfOk result (λ passed. (passed.learns ≡ false) × (passed.is_unjudged ≡ false)) }
+        ensures talk { self.new.talk ≡ self.old.talk }
+    {
+        match still {
+            Still::Beside => self.put_beside(takers, packet, out),
+            Still::Taken(alone) => self.go_on(takers, alone, packet, libraries, out),
         }
     }
 
@@ -501,8 +625,8 @@ impl<M: Allocator> AirServices<M> {
         }
     }
 
-    /// Does what [`AirServices::pass`] does for a packet that these take, or before which all are asked. It stands by itself, so that a packet that
-    /// no service takes does not pay for its room.
+    /// Does what [`AirServices::pass`] does, for any packet; these take it. It stands by itself, so that a packet that is settled for each service
+    /// as it stands does not pay for its room.
     ///
     /// # Errors
     ///
@@ -528,23 +652,11 @@ impl<M: Allocator> AirServices<M> {
             → OnOk result (RunsSoFar self.new ts (next.entry.packet.now ∷ past) (λ l. K.holds out.new start (before ++ l))
             (Exchanged U.exchanges U.failures first automation.new)) }
     {
-        let packet = next.packet;
-        let goes_on = match self.settle(takers, next, libraries, out, watch) {
-            Ok(goes_on) => goes_on,
+        match self.settle(takers, next, libraries, out, watch) {
+            Ok(()) => {}
             Err(fault) => return Err(fault),
-        };
-        self.hear(automation);
-        if let Some(alone) = goes_on {
-            if !self.desk.asks_all {
-                return match self.go_on(takers, alone, packet, libraries, out) {
-                    Ok(passed) => {
-                        self.passed(passed, takers, next, libraries, watch);
-                        Ok(())
-                    }
-                    Err(fault) => Err(fault),
-                };
-            }
         }
+        self.hear(automation);
         match self.pass_heard(takers, next, libraries, out, watch) {
             Ok(()) => Ok(()),
             Err(fault) => Err(fault),
@@ -579,27 +691,23 @@ impl<M: Allocator> AirServices<M> {
             number: self.packets,
         };
         let takers = self.desk.owners.takers(packet);
-        if self.desk.asks_all || takers != 0 {
-            return match self.pass_taken(takers, next, automation, libraries, out, watch) {
-                Ok(()) => Ok(()),
-                Err(fault) => Err(fault),
-            };
-        }
-        self.settle_none(takers, packet);
-        self.hear(automation);
         if self.desk.asks_all {
-            return match self.pass_heard(takers, next, libraries, out, watch) {
-                Ok(()) => Ok(()),
+            return self.pass_taken(takers, next, automation, libraries, out, watch);
+        }
+        let Some(still) = self.settle_still(takers, packet) else {
+            return self.pass_taken(takers, next, automation, libraries, out, watch);
+        };
+        self.hear(automation);
+        if !self.desk.asks_all {
+            return match self.put_still(still, takers, packet, libraries, out) {
+                Ok(_passed) => {
+                    self.passed_still(packet, libraries, watch);
+                    Ok(())
+                }
                 Err(fault) => Err(fault),
             };
         }
-        match self.put_beside(takers, packet, out) {
-            Ok(passed) => {
-                self.passed(passed, takers, next, libraries, watch);
-                Ok(())
-            }
-            Err(fault) => Err(fault),
-        }
+        self.pass_heard(takers, next, libraries, out, watch)
     }
 
     /// Puts what is left of all advertisements, service by service, and tells what was counted.

@@ -1,6 +1,6 @@
 //! What becomes of a packet in several services on air.
 
-ghost use Rattle.std.specs.Prelude.{◌≡◌, ◌||◌, ◌++◌, ◌<◌, ◌≤◌, ℕ, List, length, true, false, Option, None, OnOk, IfOk, IfSome};
+ghost use Rattle.std.specs.Prelude.{◌≡◌, ◌||◌, ◌++◌, ℕ, List, length, true, false, Option, OnOk, IfOk};
 ghost use Rattle.std.specs.List.{list_any};
 ghost use Rattle.ts_packet.specs.Fields.{pid_of};
 ghost use Rattle.ad_library.specs.Library.{held};
@@ -8,11 +8,11 @@ ghost use Rattle.service_laws.specs.Services.{ServiceTerms};
 ghost use Rattle.chain_services.specs.Serving.{FiledAs};
 ghost use Rattle.services_on_air.specs.Airing.{Airing, next_of, nexts};
 ghost use Rattle.services_on_air.specs.Standing.{AirStandsFor, IsSettled, AllStand, AllSettled};
-ghost use Rattle.services_on_air.specs.Owners.{MayStay, MayAllStay, IsLeftOut, AreLeftOut, FirstGoesOnAir, TakerGoesOn};
+ghost use Rattle.services_on_air.specs.Owners.{MayStay, MayAllStay, IsLeftOut, AreLeftOut};
 ghost use Rattle.services_on_air.specs.Histories.{Gone, HasGone, gone_settled, begins_anew, put_settled};
 ghost use Rattle.services_on_air.specs.Serving.{AllGone, gones_settled, puts_settled};
 
-use crate::service::{AirService, Numbered, Settled};
+use crate::service::{AirService, Numbered};
 use crate::watch::ServicesWatch;
 use ad_library::AdLibrary;
 use chain_services::{leaves_out, leaves_out_all, shift_of};
@@ -113,68 +113,27 @@ fn settle_each<K: PacketSink, A: ServicesWatch>(
     }
 }
 
-/// Does what [`settle_each`] does, and leaves it open in which stream the packet goes on.
-///
-/// # Errors
-///
-/// The sink's.
-fn settle_open<K: PacketSink, A: ServicesWatch>(
-    all: bool,
-    takers: u8,
-    services: &mut [AirService],
-    libraries: &[AdLibrary],
-    next: Numbered<'_>,
-    out: &mut K,
-    watch: &mut A,
-) -> Result<Settled, PutFault>
-    ensures leads { K.leads out.old out.new }
-    ensures stands { (xs : List Airing) → AllStand services.old xs → length libraries.now ≡ length xs
-        → (all ≡ false → MayAllStay takers services.old (pid_of next.entry.packet.now) xs)
-        → OnOk result (AllSettled services.new next.entry.packet.now (nexts next.entry.packet.now xs)) }
-    ensures anew { (xs : List Airing) → AllStand services.old xs → length libraries.now ≡ length xs
-        → (all ≡ false → MayAllStay takers services.old (pid_of next.entry.packet.now) xs)
-        → IfOk result (λ settled. settled.is_anew ≡ list_any (begins_anew next.entry.packet.now) xs) }
-    ensures none { IfOk result (λ settled. settled.goes_on ≡ None) }
-    ensures left { (xs : List Airing) → AllStand services.old xs → length libraries.now ≡ length xs
-        → (all ≡ false → MayAllStay takers services.old (pid_of next.entry.packet.now) xs) → all ≡ false
-        → OnOk result (AreLeftOut takers services.new (pid_of next.entry.packet.now) (nexts next.entry.packet.now xs)) }
-    ensures out { (xs : List Airing) (ts : List ServiceTerms) (gs : List Gone) (start : Option (List ℕ)) (ps : List (List ℕ))
-        → AllStand services.old xs → (all ≡ false → MayAllStay takers services.old (pid_of next.entry.packet.now) xs)
-        → FiledAs libraries.now ts → AllGone services.old ts gs → K.holds out.old start ps
-        → OnOk result (AllGone services.new ts (gones_settled ts next.entry.packet.now xs gs)
-        × K.holds out.new start (ps ++ puts_settled ts next.entry.packet.now xs gs)) }
-{
-    match settle_each(all, takers, services, libraries, next, out, watch) {
-        Ok(is_anew) => Ok(Settled::of(is_anew)),
-        Err(fault) => Err(fault),
-    }
-}
-
-/// Settles for the first of these services, before which so many others stand and which alone takes it, what becomes of the next packet. It looks
-/// at no other one, and so calls itself not.
+/// Settles for the first of these services, which alone takes it, what becomes of the next packet. It looks at no other one, and so calls itself
+/// not.
 ///
 /// # Errors
 ///
 /// The sink's.
 #[inline(always)]
 fn settle_first<K: PacketSink, A: ServicesWatch>(
-    count: usize,
     services: &mut [AirService],
     libraries: &[AdLibrary],
     next: Numbered<'_>,
     out: &mut K,
     watch: &mut A,
-) -> Result<Settled, PutFault>
+) -> Result<bool, PutFault>
     ensures leads { K.leads out.old out.new }
     ensures stands { (xs : List Airing) → AllStand services.old xs → length libraries.now ≡ length xs
         → MayAllStay 1 services.old (pid_of next.entry.packet.now) xs
         → OnOk result (AllSettled services.new next.entry.packet.now (nexts next.entry.packet.now xs)) }
     ensures anew { (xs : List Airing) → AllStand services.old xs → length libraries.now ≡ length xs
         → MayAllStay 1 services.old (pid_of next.entry.packet.now) xs
-        → IfOk result (λ settled. settled.is_anew ≡ list_any (begins_anew next.entry.packet.now) xs) }
-    ensures below { IfOk result (λ settled. IfSome settled.goes_on (λ alone. alone.stream < 8)) }
-    ensures count { IfOk result (λ settled. IfSome settled.goes_on (λ alone. alone.count ≡ count)) }
-    ensures alone { IfOk result (λ settled. IfSome settled.goes_on (λ alone. FirstGoesOnAir services.new alone.stream next.entry.packet.now)) }
+        → IfOk result (λ is_anew. is_anew ≡ list_any (begins_anew next.entry.packet.now) xs) }
     ensures left { (xs : List Airing) → AllStand services.old xs → length libraries.now ≡ length xs
         → MayAllStay 1 services.old (pid_of next.entry.packet.now) xs
         → OnOk result (AreLeftOut 1 services.new (pid_of next.entry.packet.now) (nexts next.entry.packet.now xs)) }
@@ -185,12 +144,12 @@ fn settle_first<K: PacketSink, A: ServicesWatch>(
         × K.holds out.new start (ps ++ puts_settled ts next.entry.packet.now xs gs)) }
 {
     let Some((service, _others)) = services.split_first_mut() else {
-        return Ok(Settled::of(false));
+        return Ok(false);
     };
     let Some((library, _behind)) = libraries.split_first() else {
-        return Ok(Settled::of(false));
+        return Ok(false);
     };
-    service.settle_alone(count, next, library, out, watch)
+    service.settle(next, library, out, watch)
 }
 
 /// Does what [`settle_each`] does, and begins with the first of these services that takes the packet.
@@ -207,17 +166,14 @@ pub(crate) fn settle_some<K: PacketSink, A: ServicesWatch>(
     next: Numbered<'_>,
     out: &mut K,
     watch: &mut A,
-) -> Result<Settled, PutFault>
+) -> Result<bool, PutFault>
     ensures leads { K.leads out.old out.new }
     ensures stands { (xs : List Airing) → AllStand services.old xs → length libraries.now ≡ length xs
         → (all ≡ false → MayAllStay takers services.old (pid_of next.entry.packet.now) xs)
         → OnOk result (AllSettled services.new next.entry.packet.now (nexts next.entry.packet.now xs)) }
     ensures anew { (xs : List Airing) → AllStand services.old xs → length libraries.now ≡ length xs
         → (all ≡ false → MayAllStay takers services.old (pid_of next.entry.packet.now) xs)
-        → IfOk result (λ settled. settled.is_anew ≡ list_any (begins_anew next.entry.packet.now) xs) }
-    ensures below { IfOk result (λ settled. IfSome settled.goes_on (λ alone. alone.stream < 8)) }
-    ensures libraries { IfOk result (λ settled. IfSome settled.goes_on (λ alone. alone.count ≤ length libraries.now)) }
-    ensures alone { IfOk result (λ settled. IfSome settled.goes_on (λ alone. TakerGoesOn takers alone services.new next.entry.packet.now)) }
+        → IfOk result (λ is_anew. is_anew ≡ list_any (begins_anew next.entry.packet.now) xs) }
     ensures left { (xs : List Airing) → AllStand services.old xs → length libraries.now ≡ length xs
         → (all ≡ false → MayAllStay takers services.old (pid_of next.entry.packet.now) xs) → all ≡ false
         → OnOk result (AreLeftOut takers services.new (pid_of next.entry.packet.now) (nexts next.entry.packet.now xs)) }
@@ -228,19 +184,16 @@ pub(crate) fn settle_some<K: PacketSink, A: ServicesWatch>(
         × K.holds out.new start (ps ++ puts_settled ts next.entry.packet.now xs gs)) }
 {
     if leaves_out_all(all, takers) {
-        return Ok(Settled::of(false));
+        return Ok(false);
     }
     if all {
-        return settle_open(all, takers, services, libraries, next, out, watch);
-    }
-    if takers == 1 {
-        return settle_first(0, services, libraries, next, out, watch);
+        return settle_each(all, takers, services, libraries, next, out, watch);
     }
     let shift = shift_of(takers, services.len().min(libraries.len()));
     let (_, services) = services.split_at_mut(shift.count);
     let (_, libraries) = libraries.split_at(shift.count);
     if shift.takers == 1 {
-        return settle_first(shift.count, services, libraries, next, out, watch);
+        return settle_first(services, libraries, next, out, watch);
     }
-    settle_open(false, shift.takers, services, libraries, next, out, watch)
+    settle_each(false, shift.takers, services, libraries, next, out, watch)
 }

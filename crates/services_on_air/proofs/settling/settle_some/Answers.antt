@@ -1,4 +1,4 @@
-use Rattle.std.proofs.Common.{rules, ◌≡◌, ◌++◌, [], length, refl, sym, subst, ◌∙◌}
+use Rattle.std.proofs.Common.{rules, ◌≡◌, ◌++◌, length, refl, sym, subst, ◌∙◌}
 use Rattle.std.proofs.lemmas.List.{append-nil}
 use Rattle.ts_packet.specs.Fields.{pid_of}
 use Rattle.chain_services.specs.Owners.{IsShifted}
@@ -7,9 +7,9 @@ use Rattle.chain_services.proofs.ShiftLemmas.{if-ok, whole-of}
 use Rattle.services_on_air.specs.Airing.{nexts}
 use Rattle.services_on_air.specs.Standing.{AllStand}
 use Rattle.services_on_air.specs.Serving.{AllGone}
-use Rattle.services_on_air.specs.Owners.{MayAllStay, AreLeftOut, TakerGoesOn}
+use Rattle.services_on_air.specs.Owners.{MayAllStay, AreLeftOut}
 use Rattle.services_on_air.proofs.StayLemmas.{all-stay, stay-gone}
-use Rattle.services_on_air.proofs.FrontLemmas.{behind-settled, gone-behind-settled, fewer-behind, on-ok, if-both-ok, if-both-some, none-said, taker-behind}
+use Rattle.services_on_air.proofs.FrontLemmas.{behind-settled, gone-behind-settled, fewer-behind, on-ok}
 use Rattle.services_on_air.proofs.settling.settle_some.Goals as goal
 
 pub returns-clause-stands : goal.returns-clause-stands
@@ -26,7 +26,7 @@ returns-clause-stands g c = λ xs h many may.
     let p = c.args.next.packet.now in
     let w = behind-settled front back left c.args.takers p xs shifted (subst (λ l. AllStand l xs) value h) (subst (λ l. MayAllStay c.args.takers l (pid_of p) xs) value (may c.if-all.false)) in
     let long = fewer-behind c.args.libraries.now lfront lback (length xs) (length front) (length w.ys) c.shift_of-shift.result.count whole many w.long c.split_at.ensures.front_len many_front in
-    on-ok c.settle_open-2.result _ _ (w.settled c.settle_open-2.new.services) (c.settle_open-2.ensures.stands w.ys w.stand long (λ f. w.may))
+    on-ok c.settle_each-2.result _ _ (w.settled c.settle_each-2.new.services) (c.settle_each-2.ensures.stands w.ys w.stand long (λ f. w.may))
 
 pub returns-clause-anew : goal.returns-clause-anew
 returns-clause-anew g c = λ xs h many may.
@@ -42,7 +42,7 @@ returns-clause-anew g c = λ xs h many may.
     let p = c.args.next.packet.now in
     let w = behind-settled front back left c.args.takers p xs shifted (subst (λ l. AllStand l xs) value h) (subst (λ l. MayAllStay c.args.takers l (pid_of p) xs) value (may c.if-all.false)) in
     let long = fewer-behind c.args.libraries.now lfront lback (length xs) (length front) (length w.ys) c.shift_of-shift.result.count whole many w.long c.split_at.ensures.front_len many_front in
-    if-ok c.settle_open-2.result _ _ (λ settled same. same ∙ sym w.same) (c.settle_open-2.ensures.anew w.ys w.stand long (λ f. w.may))
+    if-ok c.settle_each-2.result _ _ (λ is_anew same. same ∙ sym w.same) (c.settle_each-2.ensures.anew w.ys w.stand long (λ f. w.may))
 
 pub returns-clause-left : goal.returns-clause-left
 returns-clause-left g c = λ xs h many may none.
@@ -58,7 +58,7 @@ returns-clause-left g c = λ xs h many may none.
     let p = c.args.next.packet.now in
     let w = behind-settled front back left c.args.takers p xs shifted (subst (λ l. AllStand l xs) value h) (subst (λ l. MayAllStay c.args.takers l (pid_of p) xs) value (may c.if-all.false)) in
     let long = fewer-behind c.args.libraries.now lfront lback (length xs) (length front) (length w.ys) c.shift_of-shift.result.count whole many w.long c.split_at.ensures.front_len many_front in
-    on-ok c.settle_open-2.result _ _ (w.leave c.settle_open-2.new.services) (c.settle_open-2.ensures.left w.ys w.stand long (λ f. w.may) refl)
+    on-ok c.settle_each-2.result _ _ (w.leave c.settle_each-2.new.services) (c.settle_each-2.ensures.left w.ys w.stand long (λ f. w.may) refl)
 
 pub returns-clause-out : goal.returns-clause-out
 returns-clause-out g c = λ xs ts gs start ps h may filed all is_held.
@@ -74,9 +74,9 @@ returns-clause-out g c = λ xs ts gs start ps h may filed all is_held.
     let p = c.args.next.packet.now in
     let w = gone-behind-settled lfront lback front back left c.args.takers ts gs p xs (c.split_at.ensures.front_len ∙ sym many_front) shifted (subst (λ l. AllStand l xs) value h)
     (subst (λ l. MayAllStay c.args.takers l (pid_of p) xs) value (may c.if-all.false)) (subst (λ l. FiledAs l ts) whole filed) (subst (λ l. AllGone l ts gs) value all) in
-    let holds = g.K.PacketSink.holds c.settle_open-2.new.out start in
-    on-ok c.settle_open-2.result _ _ (λ k. (w.gone c.settle_open-2.new.services k.0, subst (λ l. holds (ps ++ l)) (sym w.put) k.1))
-    (c.settle_open-2.ensures.out w.ys w.us w.hs start ps w.stand (λ f. w.may) w.filed w.all is_held)
+    let holds = g.K.PacketSink.holds c.settle_each-2.new.out start in
+    on-ok c.settle_each-2.result _ _ (λ k. (w.gone c.settle_each-2.new.services k.0, subst (λ l. holds (ps ++ l)) (sym w.put) k.1))
+    (c.settle_each-2.ensures.out w.ys w.us w.hs start ps w.stand (λ f. w.may) w.filed w.all is_held)
 
 pub returns-then-leaves_out_all-clause-stands : goal.returns-then-leaves_out_all-clause-stands
 returns-then-leaves_out_all-clause-stands g c = λ xs h many may.
@@ -92,7 +92,7 @@ returns-then-leaves_out_all-clause-anew g c = λ xs h many may.
     let ss = c.args.services.now in
     let zero = c.leaves_out_all.ensures.none c.if-leaves_out_all.true in
     let k = all-stay ss p xs h (subst (λ n. MayAllStay n ss (pid_of p) xs) zero (may (c.leaves_out_all.ensures.all c.if-leaves_out_all.true))) in
-    c.of.ensures.anew ∙ sym k.same
+    sym k.same
 
 pub returns-then-leaves_out_all-clause-left : goal.returns-then-leaves_out_all-clause-left
 returns-then-leaves_out_all-clause-left g c = λ xs h many may none.
@@ -128,7 +128,7 @@ returns-then-shift-eq1-clause-stands g c = λ xs h many may.
     let one : left ≡ 1 = search rules in
     let alone = subst (λ n. MayAllStay n back (pid_of p) w.ys) one w.may in
     let long = fewer-behind c.args.libraries.now lfront lback (length xs) (length front) (length w.ys) c.shift_of-shift.result.count whole many w.long c.split_at.ensures.front_len many_front in
-    on-ok c.settle_first-then-shift-eq1.result _ _ (w.settled c.settle_first-then-shift-eq1.new.services) (c.settle_first-then-shift-eq1.ensures.stands w.ys w.stand long alone)
+    on-ok c.settle_first.result _ _ (w.settled c.settle_first.new.services) (c.settle_first.ensures.stands w.ys w.stand long alone)
 
 pub returns-then-shift-eq1-clause-anew : goal.returns-then-shift-eq1-clause-anew
 returns-then-shift-eq1-clause-anew g c = λ xs h many may.
@@ -146,7 +146,7 @@ returns-then-shift-eq1-clause-anew g c = λ xs h many may.
     let one : left ≡ 1 = search rules in
     let alone = subst (λ n. MayAllStay n back (pid_of p) w.ys) one w.may in
     let long = fewer-behind c.args.libraries.now lfront lback (length xs) (length front) (length w.ys) c.shift_of-shift.result.count whole many w.long c.split_at.ensures.front_len many_front in
-    if-ok c.settle_first-then-shift-eq1.result _ _ (λ settled same. same ∙ sym w.same) (c.settle_first-then-shift-eq1.ensures.anew w.ys w.stand long alone)
+    if-ok c.settle_first.result _ _ (λ is_anew same. same ∙ sym w.same) (c.settle_first.ensures.anew w.ys w.stand long alone)
 
 pub returns-then-shift-eq1-clause-left : goal.returns-then-shift-eq1-clause-left
 returns-then-shift-eq1-clause-left g c = λ xs h many may none.
@@ -164,7 +164,7 @@ returns-then-shift-eq1-clause-left g c = λ xs h many may none.
     let one : left ≡ 1 = search rules in
     let alone = subst (λ n. MayAllStay n back (pid_of p) w.ys) one w.may in
     let long = fewer-behind c.args.libraries.now lfront lback (length xs) (length front) (length w.ys) c.shift_of-shift.result.count whole many w.long c.split_at.ensures.front_len many_front in
-    on-ok c.settle_first-then-shift-eq1.result _ _ (λ k. w.leave c.settle_first-then-shift-eq1.new.services (subst (λ n. AreLeftOut n c.settle_first-then-shift-eq1.new.services (pid_of p) (nexts p w.ys)) (sym one) k)) (c.settle_first-then-shift-eq1.ensures.left w.ys w.stand long alone)
+    on-ok c.settle_first.result _ _ (λ k. w.leave c.settle_first.new.services (subst (λ n. AreLeftOut n c.settle_first.new.services (pid_of p) (nexts p w.ys)) (sym one) k)) (c.settle_first.ensures.left w.ys w.stand long alone)
 
 pub returns-then-shift-eq1-clause-out : goal.returns-then-shift-eq1-clause-out
 returns-then-shift-eq1-clause-out g c = λ xs ts gs start ps h may filed all is_held.
@@ -182,59 +182,6 @@ returns-then-shift-eq1-clause-out g c = λ xs ts gs start ps h may filed all is_
     (subst (λ l. MayAllStay c.args.takers l (pid_of p) xs) value (may c.if-all.false)) (subst (λ l. FiledAs l ts) whole filed) (subst (λ l. AllGone l ts gs) value all) in
     let one : left ≡ 1 = search rules in
     let alone = subst (λ n. MayAllStay n back (pid_of p) w.ys) one w.may in
-    let holds = g.K.PacketSink.holds c.settle_first-then-shift-eq1.new.out start in
-    on-ok c.settle_first-then-shift-eq1.result _ _ (λ k. (w.gone c.settle_first-then-shift-eq1.new.services k.0, subst (λ l. holds (ps ++ l)) (sym w.put) k.1))
-    (c.settle_first-then-shift-eq1.ensures.out w.ys w.us w.hs start ps w.stand alone w.filed w.all is_held)
-
-pub returns-then-shift-eq1-clause-alone : goal.returns-then-shift-eq1-clause-alone
-returns-then-shift-eq1-clause-alone g c =
-    let front = c.split_at_mut-services.result.0.now in
-    let many = c.split_at_mut-services.ensures.front_len in
-    let n = c.shift_of-shift.result.count in
-    let one : c.shift_of-shift.result.takers ≡ 1 = search rules in
-    let shifted = subst (λ left. IsShifted n left c.args.takers) one c.shift_of-shift.ensures.shifted in
-    let first = c.settle_first-then-shift-eq1 in
-    let p = c.args.next.packet.now in
-    if-both-ok first.result _ _ _ (λ settled counts goes. if-both-some settled.goes_on _ _ _
-    (λ alone e on. taker-behind front first.new.services c.args.takers alone p (many ∙ sym e) (subst (λ k. IsShifted k 1 c.args.takers) (sym e) shifted) on) counts goes)
-    first.ensures.count first.ensures.alone
-
-pub returns-clause-alone : goal.returns-clause-alone
-returns-clause-alone g c =
-    let now = c.split_at_mut-services.result.0.now ++ c.settle_open-2.new.services in
-    if-ok c.settle_open-2.result _ _ (λ settled none. none-said settled.goes_on (λ alone. TakerGoesOn c.args.takers alone now c.args.next.packet.now) none) c.settle_open-2.ensures.none
-
-pub returns-then-all-clause-alone : goal.returns-then-all-clause-alone
-returns-then-all-clause-alone g c =
-    if-ok c.settle_open.result _ _ (λ settled none. none-said settled.goes_on (λ alone. TakerGoesOn c.args.takers alone c.settle_open.new.services c.args.next.packet.now) none) c.settle_open.ensures.none
-
-pub returns-then-takers-eq1-clause-stands : goal.returns-then-takers-eq1-clause-stands
-returns-then-takers-eq1-clause-stands g c = λ xs h many may.
-    let one : c.args.takers ≡ 1 = search rules in
-    c.settle_first.ensures.stands xs h many (subst (λ n. MayAllStay n c.args.services.now (pid_of c.args.next.packet.now) xs) one (may c.if-all.false))
-
-pub returns-then-takers-eq1-clause-anew : goal.returns-then-takers-eq1-clause-anew
-returns-then-takers-eq1-clause-anew g c = λ xs h many may.
-    let one : c.args.takers ≡ 1 = search rules in
-    c.settle_first.ensures.anew xs h many (subst (λ n. MayAllStay n c.args.services.now (pid_of c.args.next.packet.now) xs) one (may c.if-all.false))
-
-pub returns-then-takers-eq1-clause-left : goal.returns-then-takers-eq1-clause-left
-returns-then-takers-eq1-clause-left g c = λ xs h many may none.
-    let one : c.args.takers ≡ 1 = search rules in
-    let p = c.args.next.packet.now in
-    on-ok c.settle_first.result _ _ (λ k. subst (λ n. AreLeftOut n c.settle_first.new.services (pid_of p) (nexts p xs)) (sym one) k)
-    (c.settle_first.ensures.left xs h many (subst (λ n. MayAllStay n c.args.services.now (pid_of p) xs) one (may c.if-all.false)))
-
-pub returns-then-takers-eq1-clause-out : goal.returns-then-takers-eq1-clause-out
-returns-then-takers-eq1-clause-out g c = λ xs ts gs start ps h may filed all is_held.
-    let one : c.args.takers ≡ 1 = search rules in
-    c.settle_first.ensures.out xs ts gs start ps h (subst (λ n. MayAllStay n c.args.services.now (pid_of c.args.next.packet.now) xs) one (may c.if-all.false)) filed all is_held
-
-pub returns-then-takers-eq1-clause-alone : goal.returns-then-takers-eq1-clause-alone
-returns-then-takers-eq1-clause-alone g c =
-    let one : c.args.takers ≡ 1 = search rules in
-    let first = c.settle_first in
-    let p = c.args.next.packet.now in
-    if-both-ok first.result _ _ _ (λ settled counts goes. if-both-some settled.goes_on _ _ _
-    (λ alone e on. taker-behind [] first.new.services c.args.takers alone p (sym e) (subst (λ k. IsShifted k 1 c.args.takers) (sym e) (sym one)) on) counts goes)
-    first.ensures.count first.ensures.alone
+    let holds = g.K.PacketSink.holds c.settle_first.new.out start in
+    on-ok c.settle_first.result _ _ (λ k. (w.gone c.settle_first.new.services k.0, subst (λ l. holds (ps ++ l)) (sym w.put) k.1))
+    (c.settle_first.ensures.out w.ys w.us w.hs start ps w.stand alone w.filed w.all is_held)

@@ -2,7 +2,7 @@ use Rattle.std.proofs.Common.{rules, [], refl, sym, subst}
 use Rattle.services_on_air.specs.Standing.{AllStand}
 use Rattle.std.proofs.Common.{ap, ◌∙◌}
 use Rattle.std.specs.Option.{option_copied}
-use Rattle.services_on_air.proofs.TogetherLemmas.{first-index}
+use Rattle.chain_services.proofs.BeginLemmas.{first_index}
 use Rattle.services_on_air.specs.Serving.{AllGone}
 use Rattle.std.proofs.Common.{◌≡◌, true, false}
 use Rattle.services_on_air.specs.Owners.{IsBeside}
@@ -30,7 +30,7 @@ returns-clause-begins g c = record {
     none = record {
       index = c.in-Some.first.now.index;
       steps = [];
-      is_first = first-index ts c.args.configs.now c.in-Some.first.now e (sym c.first.ensures.value ∙ ap option_copied c.in-Some.is);
+      is_first = first_index ts c.args.configs.now c.in-Some.first.now e (sym c.first.ensures.value ∙ ap option_copied c.in-Some.is);
       stands = c.new.ensures.stands;
     };
   };

@@ -1,6 +1,4 @@
-use Rattle.services_on_air.specs.Owners.{TakerGoesOn}
-use Rattle.services_on_air.proofs.FrontLemmas.{if-some}
-use Rattle.std.proofs.Common.{rules, ◌≡◌, List, length, sym, ap, subst, ◌∙◌}
+use Rattle.std.proofs.Common.{rules, ◌≡◌, length, sym, ap, subst, ◌∙◌}
 use Rattle.std.proofs.lemmas.List.{with_items_is}
 use Rattle.ts_packet.specs.Fields.{pid_of}
 use Rattle.services_on_air.specs.Airing.{nexts, airings}
@@ -43,8 +41,8 @@ returns-in-Ok-clause-stands g c = λ cs past h many.
       all = subst (λ w. AllSettled w.items p ys) (sym settled.others.0) (subst (λ l. AllSettled l p ys) items (each.stands xs stood long may));
       packets = h.packets;
       unjudged = h.unjudged;
-      owners = settled-owners _ c.settled.new.self c.in-Ok.settled.is_anew p xs settled.anew settled.same (each.anew xs stood long may) h.owners;
-      left = settled-left _ c.settled.new.self c.in-Ok.settled.is_anew p ys settled.anew settled.same
+      owners = settled-owners _ c.settled.new.self c.in-Ok.is_anew p xs settled.anew settled.same (each.anew xs stood long may) h.owners;
+      left = settled-left _ c.settled.new.self c.in-Ok.is_anew p ys settled.anew settled.same
           (left-told desk.owners takers (pid_of p) desk.asks_all all.result _ ys c.requires.takers all.ensures.by_bits
           (λ none. subst (λ l. AreLeftOut takers l (pid_of p) ys) items (each.left xs stood long may none)));
     }
@@ -80,13 +78,4 @@ returns-in-Ok-clause-out g c = λ ts past before takes rs start stood filed h is
     )
 
 pub returns-in-Ok-clause-told : goal.returns-in-Ok-clause-told
-returns-in-Ok-clause-told g c = settled-told _ c.settled.new.self c.in-Ok.settled.is_anew c.args.takers c.args.next.packet.now c.settled.ensures.anew c.settled.ensures.same c.requires.takers
-
-pub returns-in-Ok-clause-alone : goal.returns-in-Ok-clause-alone
-returns-in-Ok-clause-alone g c =
-    let v = c.args.self.now.desk.services in
-    let kept : length c.settle_some.new.services ≡ v.len = search rules in
-    let items = sym (with_items_is v c.settle_some.new.services kept) in
-    let p = c.args.next.packet.now in
-    if-some c.in-Ok.settled.goes_on _ _ (λ alone on quiet.
-    subst (λ w. TakerGoesOn c.args.takers alone w.items p) (sym c.settled.ensures.others.0) (subst (λ l. TakerGoesOn c.args.takers alone l p) items on)) c.in-Ok.ensures.alone
+returns-in-Ok-clause-told g c = settled-told _ c.settled.new.self c.in-Ok.is_anew c.args.takers c.args.next.packet.now c.settled.ensures.anew c.settled.ensures.same c.requires.takers
