@@ -29,6 +29,17 @@ impl FaultlessMap {
         }
     }
 
+    /// The same map, kept once more: for a reader that looks at a packet.
+    pub(crate) fn copied(&self) -> FaultlessMap
+        ensures { (known : Option Program) → IsFaultless self.now known → IsFaultless result known }
+    {
+        let mut copy = FaultlessMap::new();
+        if let Some((purpose, listed)) = &self.by {
+            copy.keep(purpose, listed, self.section.as_slice());
+        }
+        copy
+    }
+
     /// The section is that map again, and is to be judged by the same.
     pub(crate) fn comes_again(&self, purpose: &Purpose, listed: &Listed, section: &[u8]) -> bool
         ensures { (known : Option Program) → IsFaultless self.now known → result ≡ true

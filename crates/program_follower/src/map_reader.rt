@@ -47,7 +47,7 @@ impl MapReader {
         }
     }
 
-    /// A reader that was fed the same. It judges each map anew.
+    /// A reader that was fed the same.
     pub(crate) fn copied(&self) -> MapReader
         ensures { (wanted : Option ℕ) (past : List (List ℕ)) → MapsRead self.now wanted past → MapsRead result wanted past }
     {
@@ -58,7 +58,7 @@ impl MapReader {
         MapReader {
             assembler: self.assembler.copied(),
             known,
-            faultless: FaultlessMap::new(),
+            faultless: self.faultless.copied(),
             is_on_map: self.is_on_map,
         }
     }

@@ -54,9 +54,9 @@ pub struct UnitStart {
 /// Follows up to eight switched streams, and tells of their packets only which begin units.
 #[derive(Drop)]
 pub struct Starts {
-    places: StreamPlaces,
-    clock: Clock,
     readers: [StartReader; 8],
+    clock: Clock,
+    places: StreamPlaces,
 }
 
 impl Starts {
@@ -189,8 +189,8 @@ impl Starts {
         if !packet.unit_start() {
             return None;
         }
-        let (mut reader, mut clock) = (self.readers[index], self.clock);
-        match pass(&mut clock, reader.take(packet)) {
+        let mut clock = self.clock;
+        match pass(&mut clock, self.readers[index].look(packet)) {
             Ok(_) => None,
             Err(fault) => Some(fault),
         }
@@ -206,8 +206,7 @@ impl Starts {
         if !packet.has_payload() {
             return None;
         }
-        let mut reader = self.readers[index];
-        match reader.take(packet) {
+        match self.readers[index].look(packet) {
             None => None,
             Some(payload) => Some(UnitStart {
                 pts: stamp_in(payload),

@@ -55,6 +55,20 @@ impl StartReader {
         None
     }
 
+    /// The payload of the first packet of a unit, where the next payload packet of the PID is that; `None` where it begins no unit. It is not
+    /// taken, and nothing is copied.
+    #[inline(always)]
+    pub fn look<'a>(&self, packet: &'a Packet) -> Option<&'a [u8]>
+        ensures { OfStarts self.now (λ pid past. payload_on pid packet.now ≡ true → IsBegin result pid packet.now past) }
+    {
+        if !packet.unit_start() {
+            return None;
+        }
+        let mut follower = self.follower;
+        let is_original = follower.take(packet, &self.last);
+        if is_original { packet.payload() } else { None }
+    }
+
     /// Takes a payload packet of the PID that has the start bit. It stands by itself, as few packets have that.
     #[inline(never)]
     fn take_start<'a>(&mut self, packet: &'a Packet) -> Option<&'a [u8]>

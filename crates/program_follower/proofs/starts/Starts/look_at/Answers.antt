@@ -46,7 +46,7 @@ returns-in-Ok c = λ ps past at h.
     let x : ℕ × ℕ = (c.args.index, of.0) in
     let e : first_on ps p ≡ Some x = of.1 in
     let y = payload_of x.1 p (first_is_on ps p x e) ∙ sym c.has_payload.ensures ∙ c.if-not-has_payload.false in
-    let begins = c.take.ensures.begins x.1 past (h.readers p x c.index-self-index.result e) y in
+    let begins = c.look.ensures x.1 past (h.readers p x c.index-self-index.result e) y in
     let n : payload_on x.1 p && scrambled p ≡ false = ap (λ b. b && scrambled p) y ∙ sym c.scrambled.ensures ∙ c.if-scrambled.false in
     sym (fault_begin ps p past x e None n (c.in-Ok.ensures.sound ps x.1 p past (is_one ps p past x e) h.clock begins))
 
@@ -57,6 +57,6 @@ returns-in-Err c = λ ps past at h.
     let x : ℕ × ℕ = (c.args.index, of.0) in
     let e : first_on ps p ≡ Some x = of.1 in
     let y = payload_of x.1 p (first_is_on ps p x e) ∙ sym c.has_payload.ensures ∙ c.if-not-has_payload.false in
-    let begins = c.take.ensures.begins x.1 past (h.readers p x c.index-self-index.result e) y in
+    let begins = c.look.ensures x.1 past (h.readers p x c.index-self-index.result e) y in
     let n : payload_on x.1 p && scrambled p ≡ false = ap (λ b. b && scrambled p) y ∙ sym c.scrambled.ensures ∙ c.if-scrambled.false in
     sym (fault_begin ps p past x e (Some c.in-Err.fault) n (c.in-Err.ensures.err ps x.1 p past (is_one ps p past x e) h.clock begins))

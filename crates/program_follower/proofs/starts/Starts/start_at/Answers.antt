@@ -22,6 +22,6 @@ returns-in-Some c = λ ps past at h.
     let x : ℕ × ℕ = (c.args.index, of.0) in
     let e : first_on ps p ≡ Some x = of.1 in
     let y = payload_of x.1 p (first_is_on ps p x e) ∙ sym c.has_payload.ensures ∙ c.if-not-has_payload.false in
-    let begins = c.in-Some.ensures.begins x.1 past (h.readers p x c.index-self-index.result e) y in
+    let begins = c.in-Some.ensures x.1 past (h.readers p x c.index-self-index.result e) y in
     ap (λ t. Some (record { pts = t })) (c.stamp_in.ensures ∙ stamp_is p c.in-Some.payload.now begins.1)
     ∙ sym (ap (λ o. start_on o p past) e ∙ ap (λ b. if b then Some (record { pts = stamp p }) else None) begins.0)
