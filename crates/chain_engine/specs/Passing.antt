@@ -7,8 +7,7 @@ use Rattle.psi_tables.specs.declared.network.FeedFault.{FeedFault}
 use Rattle.psi_tables.specs.declared.network.FeedFault.TheVariants.{Network, Sink, Failed}
 use Rattle.program_follower.specs.Faults.{network_fault, first_fault}
 use Rattle.program_follower.specs.Purposes.{writing_cues}
-use Rattle.program_follower.specs.declared.purpose.Purpose.{Purpose}
-use Rattle.program_follower.specs.Following.{IsMoreOf, IsUnfollowed}
+use Rattle.program_follower.specs.Following.{IsUnfollowed}
 use Rattle.outgoing_packets.specs.Numbers.{FrontFails}
 use Rattle.injector.specs.Steps.{Step, Packet, packets_in, cued, sent_at}
 use Rattle.injector.specs.Injecting.{GoesOnAlone, InjectorStandsFor}
@@ -16,7 +15,7 @@ use Rattle.cued_laws.specs.Laws.{ArePacketsOfBytes}
 use Rattle.ad_library.specs.Advertisements.{Advertisement}
 use Rattle.splice_plans.specs.Adverts.{setting_of}
 use Rattle.splice_plans.specs.Switching.{Setting, switched_at_packet}
-use Rattle.splice_switch.specs.Standing.{SwitchStandsFor, SwitchFollows, switch_unasked}
+use Rattle.splice_switch.specs.Standing.{SwitchStandsFor, switch_unasked}
 use Rattle.chain_engine.specs.declared.service.Service.{Service}
 
 -- what a switch sends for these packets, one after another, behind a past
@@ -47,11 +46,9 @@ pub record PassesBy (s : Service) (c : Config) (filed : ℕ → Option Advertise
   pub stands : ServiceStandsFor s c filed (Packet p ∷ steps)
   pub alone : chain_at c filed p steps ≡ p ∷ []
 
--- A packet goes on alone for a service, in the stream of this number, whatever it has gone: so it is by what its injector was given, and by what its
--- switch was fed.
-pub record GoesOnBy (s : Service) (stream : ℕ) (p : List ℕ) : Type 0 where
-  pub alone : (c : Config) (steps : List Step) → InjectorStandsFor s.injector c steps → GoesOnAlone c stream p steps
-  pub read : (c : Purpose) (past : List (List ℕ)) → SwitchFollows s.switch c past → IsMoreOf c stream p past
+-- A packet goes on alone for a service, in the stream of this number, whatever its injector has gone.
+abbrev pub GoesOnBy : Service → ℕ → List ℕ → Type 0
+GoesOnBy s stream p = (c : Config) (steps : List Step) → InjectorStandsFor s.injector c steps → GoesOnAlone c stream p steps
 
 -- the same service, of which it is open whether what was due of the advertisements that run is out
 abbrev pub service_unasked : Service → Service

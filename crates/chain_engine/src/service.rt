@@ -221,7 +221,8 @@ impl Service {
     }
 
     /// The number of the switched stream in which the next packet of the network goes on with what came before it, where no request was accepted
-    /// since the last packet: it alone goes to the switch. `None` where it is no such packet. It is not taken.
+    /// since the last packet: it alone goes to the switch, for which it goes on in the same stream. `None` where it is no such packet. It is not
+    /// taken.
     #[inline(always)]
     pub fn goes_on(&self, packet: &Packet) -> Option<usize>
         ensures below { IfSome result (λ stream. stream < 8) }
@@ -229,17 +230,13 @@ impl Service {
         ensures told { (c : Config) (filed : ℕ → Option Advertisement) (steps : List Step) → ServiceStandsFor self.now c filed steps
             → (stream : ℕ) → GoesOnAlone c stream packet.now steps → result ≡ Some stream }
     {
-        of_bytes(packet);
-        let Some(stream) = self.injector.goes_on(packet) else {
-            return None;
-        };
-        let Some(read) = self.switch.goes_on(packet) else {
-            return None;
-        };
-        if read != stream {
+        if self.switch.is_spent() {
             return None;
         }
-        Some(stream)
+        match self.injector.goes_on(packet) {
+            Some(stream) => Some(stream),
+            None => None,
+        }
     }
 
     /// Takes the next packet as [`Service::pass`] does, which goes on alone in the stream of this number.

@@ -43,16 +43,16 @@ use ts_packet::{Packet, PacketSink, Pid, PutFault};
 /// Judges the messages of an automation, and puts the cues of the breaks that it asks for into a network. It takes no memory.
 #[derive(Drop)]
 pub struct Injector {
+    /// A request was accepted since the last packet.
+    has_news: bool,
+    is_spent: bool,
     cue_pid: Pid,
+    /// The time before which no cue is repeated; `None` where none is, unless a request comes.
+    rest: Option<Time33>,
+    counts: MessageCounts,
     requests: Requests,
     follower: StartFollower,
     out: Outgoing,
-    counts: MessageCounts,
-    /// A request was accepted since the last packet.
-    has_news: bool,
-    /// The time before which no cue is repeated; `None` where none is, unless a request comes.
-    rest: Option<Time33>,
-    is_spent: bool,
 }
 
 impl Injector {

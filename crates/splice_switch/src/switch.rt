@@ -6,7 +6,6 @@ ghost use Rattle.ts_packet.specs.Numbering.{Step as NumberStep, Kept, Counts, mo
 ghost use Rattle.ts_packet.specs.Sinks.{Blamed};
 ghost use Rattle.ts_packet.specs.Transfers.{WentWell};
 ghost use Rattle.program_follower.specs.Faults.{network_fault};
-ghost use Rattle.program_follower.specs.Following.{IsMoreOf};
 ghost use Rattle.program_follower.specs.Purposes.{reading_cues};
 ghost use Rattle.program_follower.specs.declared.purpose.Purpose.{Purpose as FollowedFor};
 ghost use Rattle.outgoing_packets.specs.Faults.{FeedBlamed, KeepsSink, is_err_or};
@@ -41,9 +40,9 @@ use ts_packet::{Packet, PacketSink, Pid, PutFault};
 pub struct Switch {
     cue_pid: Pid,
     follower: StartFollower,
-    playing: Playing,
     out: Outgoing,
     is_spent: bool,
+    playing: Playing,
 }
 
 impl Switch {
@@ -160,24 +159,12 @@ impl Switch {
         }
     }
 
-    /// The number of the switched stream in which the next packet of the network goes on with what came before it, in the order of the map: it is
-    /// neither marked in error nor scrambled, and has a payload and no start bit. `None` where it is no such packet, and once a fault was answered.
-    /// It is not taken.
+    /// It takes no packet any more: it has answered a fault, or was finished.
     #[inline(always)]
-    pub fn goes_on(&self, packet: &Packet) -> Option<usize>
-        ensures below { IfSome result (λ stream. stream < 8) }
-        ensures goes_on { (c : FollowedFor) (past : List (List ℕ)) → SwitchFollows self.now c past →
-            IfSome result (λ stream. IsMoreOf c stream packet.now past) }
-        ensures told { (c : FollowedFor) (past : List (List ℕ)) → SwitchFollows self.now c past → self.now.is_spent ≡ false →
-            (stream : ℕ) → IsMoreOf c stream packet.now past → result ≡ Some stream }
+    pub fn is_spent(&self) -> bool
+        ensures { result ≡ self.now.is_spent }
     {
-        if self.is_spent {
-            return None;
-        }
-        match self.follower.goes_on(packet) {
-            Some(stream) => Some(stream),
-            None => None,
-        }
+        self.is_spent
     }
 
     /// Takes a packet that is marked in error as the next one of the network, and puts nothing for it.
