@@ -80,6 +80,8 @@ pub(crate) struct Desk<M: Allocator> {
     pub(crate) owners: Owners,
     /// A message was judged since the last packet: all services take the next one, since cues may go out before it.
     pub(crate) has_heard: bool,
+    /// With how many packets something has turned in the switch of a service, modulo 2⁶⁴.
+    pub(crate) turns: u64,
 }
 
 impl<M: Allocator> Desk<M> {

@@ -29,6 +29,8 @@ pub(crate) struct Passed {
     pub(crate) is_own: bool,
     /// With it more PIDs may be known of a service.
     pub(crate) learns: bool,
+    /// With it something has turned in the switch of a service.
+    pub(crate) has_turned: bool,
 }
 
 /// What a packet is that passed through one service and then through others.
@@ -40,6 +42,7 @@ fn joined(one: Passed, others: Passed) -> Passed
     Passed {
         is_own: one.is_own || others.is_own,
         learns: one.learns || others.learns,
+        has_turned: one.has_turned || others.has_turned,
     }
 }
 
@@ -132,11 +135,13 @@ fn pass_closely<K: PacketSink>(
     ensures blamed { IfErr result (λ f. OutputBlamed (RunFault.Feed f)
         (K.counts out.old) (K.counts out.new) (K.is_full out.new)) }
 {
+    let turns = service.switch().turns();
     if service.owns(packet) {
         return match pass_and_learn(service, library, packet, out) {
             Ok(learns) => Ok(Passed {
                 is_own: true,
                 learns,
+                has_turned: service.switch().turns() != turns,
             }),
             Err(fault) => Err(fault),
         };
@@ -145,6 +150,7 @@ fn pass_closely<K: PacketSink>(
         return Ok(Passed {
             is_own: false,
             learns: false,
+            has_turned: false,
         });
     }
     let mut nowhere = Nowhere;
@@ -152,6 +158,7 @@ fn pass_closely<K: PacketSink>(
         Ok(learns) => Ok(Passed {
             is_own: false,
             learns,
+            has_turned: service.switch().turns() != turns,
         }),
         Err(fault) => Err(fault),
     }
@@ -191,6 +198,7 @@ fn pass_one<K: PacketSink>(
         return Ok(Passed {
             is_own: false,
             learns: false,
+            has_turned: false,
         });
     }
     pass_closely(service, library, packet, out)
@@ -227,6 +235,7 @@ fn pass_each<K: PacketSink>(
     let none = Passed {
         is_own: false,
         learns: false,
+        has_turned: false,
     };
     if leaves_out_all(all, takers) {
         of_bytes(packet);
@@ -278,12 +287,14 @@ fn pass_first<K: PacketSink>(
         return Ok(Passed {
             is_own: false,
             learns: false,
+            has_turned: false,
         });
     };
     let Some((library, _behind)) = libraries.split_first() else {
         return Ok(Passed {
             is_own: false,
             learns: false,
+            has_turned: false,
         });
     };
     pass_one(false, service, library, packet, out)
@@ -335,6 +346,7 @@ fn go_on_first<K: PacketSink>(
 /// # Errors
 ///
 /// As for [`pass_each`].
+#[cold]
 #[inline(never)]
 fn pass_some<K: PacketSink>(
     all: bool,
@@ -364,6 +376,7 @@ fn pass_some<K: PacketSink>(
         return Ok(Passed {
             is_own: false,
             learns: false,
+            has_turned: false,
         });
     }
     if all {
@@ -485,6 +498,7 @@ impl<M: Allocator> Desk<M> {
             return Ok(Passed {
                 is_own: false,
                 learns: false,
+                has_turned: false,
             });
         }
         if !all {
@@ -493,6 +507,7 @@ impl<M: Allocator> Desk<M> {
                     Ok(()) => Ok(Passed {
                         is_own: true,
                         learns: false,
+                        has_turned: false,
                     }),
                     Err(fault) => Err(fault),
                 };
@@ -544,6 +559,7 @@ impl<M: Allocator> Desk<M> {
             Ok(passed) => passed,
             Err(fault) => return Err(fault),
         };
+        self.turns = self.turns.wrapping_add(u64::from(passed.has_turned));
         if !passed.is_own {
             match out.put(packet) {
                 Ok(()) => {}

@@ -113,7 +113,9 @@ fn services_of<M: Allocator + Copy>(
 ) -> Result<Vec<Service, M>, OutOfMemory>
     ensures { IfOk result (λ services. (ts : List ServiceTerms) → configs_of ts ≡ configs.now → AllServe services.items ts []) }
 {
-    let mut services = Vec::new(alloc);
+    let Ok(mut services) = Vec::with_capacity(alloc, configs.len()) else {
+        return Err(OutOfMemory);
+    };
     match add_services(&mut services, configs) {
         Ok(()) => Ok(services),
         Err(error) => Err(error),
@@ -178,6 +180,7 @@ impl<M: Allocator + Copy> Services<M> {
             },
             owners: Owners::new(),
             has_heard: false,
+            turns: 0,
         };
         Ok(Services { talk, desk })
     }
@@ -204,6 +207,14 @@ impl<M: Allocator> Services<M> {
         ensures { option_map (λ service. service.now) result ≡ slice_get (services_in self.now.desk) place }
     {
         self.desk.services.get(place)
+    }
+
+    /// With how many packets something has turned in the switch of a service, modulo 2⁶⁴: each is looked at behind these alone.
+    #[inline(always)]
+    pub fn turns(&self) -> u64
+        ensures { result ≡ self.now.desk.turns }
+    {
+        self.desk.turns
     }
 
     /// Why the automation is not listened to any more; `None` while its session is open.

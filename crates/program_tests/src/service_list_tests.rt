@@ -11,7 +11,7 @@ use std::{env, fs};
 use ts_packet::Device;
 
 /// How many bytes of memory there are.
-const HEAP: usize = 600_000;
+const HEAP: usize = 400_000;
 
 /// Why a list of two services is not loaded in this memory.
 fn fault_in<R: Files, M: Allocator + Copy>(rt: &R, alloc: M, text: &[u8]) -> Option<ServicesFault> {
@@ -52,12 +52,12 @@ fn each_request_of_a_list_of_services_is_refused(rt: HostRuntime) -> Result<(), 
         assert!(rt; is_refused(&rt, &heap, text.as_bytes(), 16 * step)?);
     }
     let mut refused: u32 = 0;
-    for step in 0..500 {
+    for step in 0..350 {
         if is_refused(&rt, &heap, text.as_bytes(), 1_024 * step)? {
             refused = refused.saturating_add(1);
         }
     }
-    assert!(rt; refused > 32 && refused < 500);
+    assert!(rt; refused > 32 && refused < 350);
     assert!(rt; !is_refused(&rt, &heap, text.as_bytes(), HEAP)?);
     fs::remove_file(&rt, adverts)?;
     Ok(())

@@ -202,7 +202,7 @@ fn each_request_for_memory_refused(rt: HostRuntime) -> Result<(), Fail> {
     let heap = LocalHeap::new(rt.alloc(), HEAP)?;
     let mut refused: u32 = 0;
     for step in 0..41 {
-        let free = 100_000 * step;
+        let free = 25_000 * step;
         let taken: Vec<u8, &LocalHeap> = Vec::with_capacity(&heap, HEAP.saturating_sub(free))?;
         match refusal_in(&heap, &configs) {
             None => {}

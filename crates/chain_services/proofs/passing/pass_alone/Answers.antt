@@ -10,7 +10,7 @@ pub returns-in-Ok-clause-ok : goal.returns-in-Ok-clause-ok
 returns-in-Ok-clause-ok g c = λ t steps start ps filed h by is_held.
     let p = c.args.packet.now in
     let old = c.args.service.now in
-    let alone = by.alone t.config h.taken h.stands.injector in
+    let alone = by t.config h.taken h.stands.injector in
     let holds = g.K.PacketSink.holds c.go_on.new.out start in
     let stands = subst (λ v. ServiceStandsFor old t.config v h.taken) (sym filed) h.stands in
     let (goes, out) = c.in-Ok.ensures.ok t.config h.taken start ps alone stands is_held in
@@ -28,7 +28,7 @@ pub returns-in-Err-clause-err : goal.returns-in-Err-clause-err
 returns-in-Err-clause-err g c = λ t steps start ps filed h by is_held.
     let p = c.args.packet.now in
     let old = c.args.service.now in
-    let alone = by.alone t.config h.taken h.stands.injector in
+    let alone = by t.config h.taken h.stands.injector in
     let holds = g.K.PacketSink.holds c.go_on.new.out start in
     let fails = g.K.PacketSink.fails c.go_on.new.out start in
     let stands = subst (λ v. ServiceStandsFor old t.config v h.taken) (sym filed) h.stands in
