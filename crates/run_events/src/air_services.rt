@@ -64,6 +64,8 @@ pub struct SeenServices<'a, A, W> {
     /// Cues may have come before it.
     has_news: bool,
     services: ArrayVec<ServiceSight, MOST>,
+    /// With how many packets something had turned in a service when they were shown last.
+    turns: u64,
     /// The place of the service that is shown next, where all are in turn.
     next: usize,
 }
@@ -81,6 +83,7 @@ impl<'a, A, W: Watch> SeenServices<'a, A, W> {
             packet: 0,
             has_news: false,
             services: ArrayVec::new(),
+            turns: 0,
             next: 0,
         }
     }
@@ -115,6 +118,14 @@ impl<'a, A, W: Watch> SeenServices<'a, A, W> {
         sight.tracker = Tracker::new(self.is_detailed);
         let _ = self.services.try_push(sight);
         self.services.len().saturating_sub(1)
+    }
+
+    /// Something has turned in a service since they were shown last. They are shown then.
+    #[inline(always)]
+    fn has_turned(&mut self, turns: u64) -> bool {
+        let has_turned = self.turns != turns;
+        self.turns = turns;
+        has_turned
     }
 
     /// Nothing has turned in the service whose turn it is, and of which nothing is to be found any more.
@@ -191,11 +202,11 @@ impl<A: ServicesWatch, W: Watch> ServicesWatch for SeenServices<'_, A, W> {
     }
 
     #[inline(always)]
-    fn looks(&mut self, packet: &Packet) -> bool {
+    fn looks(&mut self, packet: &Packet, turns: u64) -> bool {
         self.packet = self.passed;
         self.passed = self.passed.wrapping_add(1);
         self.has_news = self.is_detailed && self.watch.takes_news();
-        self.has_news || packet.unit_start()
+        self.has_news || packet.unit_start() && (self.is_detailed || self.has_turned(turns))
     }
 
     #[inline(always)]
@@ -261,9 +272,6 @@ where
     ensures leads { K.leads out.old out.new }
     ensures devices { IfErr result IsOfDevices }
 {
-    if !listener.is_on() {
-        return run_services_on_air(services, network, automation, libraries, out, watch);
-    }
     let mut seen = SeenServices::new(watch, listener);
     match run_services_on_air(services, network, automation, libraries, out, &mut seen) {
         Ok(report) => {

@@ -32,7 +32,7 @@ pub trait BreakStage: Stage {
     /// What stands of the breaks of this program.
     fn breaks(&self, place: usize) -> Option<Breaks<'_>>;
 
-    /// How often what stands of the breaks that switches play has turned, over all programs, modulo 2⁶⁴.
+    /// A count that is another behind each packet with which what stands of the breaks that switches play turns, over all programs.
     fn turns(&self) -> u64;
 
     /// The map of this program was found by its PAT.
@@ -198,14 +198,9 @@ impl<M: Allocator, U: Automation> BreakStage for ServicesStage<'_, M, U> {
         Some(Breaks::Played(service.switch(), library))
     }
 
+    #[inline(always)]
     fn turns(&self) -> u64 {
-        let mut turns = 0u64;
-        for place in 0..self.services().count() {
-            if let Some(service) = self.services().get(place) {
-                turns = turns.wrapping_add(service.switch().turns());
-            }
-        }
-        turns
+        self.services().turns()
     }
 
     fn is_found(&self, place: usize) -> bool {

@@ -16,7 +16,7 @@ use ts_packet::{Packet, PacketSink, Pid, PutFault};
 const MOST: usize = 8;
 
 /// A stage that does what it does alone, and of which it is told what happens in it. Where nothing is to be told, a packet costs one look
-/// more; where something is, it is looked at where a unit begins, and at rest as many numbers are compared as there are programs.
+/// more; where something is, it is looked at where a unit begins, and at rest one number is compared there.
 #[derive(Drop)]
 pub(crate) struct Told<'a, S, W> {
     inner: &'a mut S,

@@ -136,7 +136,7 @@ behind-passed [] back left takers p xs shifted h out = record {
 behind-passed (s ∷ front) back left takers p [] shifted h out = absurd h
 behind-passed (s ∷ front) back left takers p (a ∷ xs) shifted h out =
     let l = out.0 shifted.0 in
-    let one = stays-passed s p a h.0 l (record { is_own = false; is_unjudged = false; learns = false; has_left = false }) refl refl refl in
+    let one = stays-passed s p a h.0 l (record { is_own = false; is_unjudged = false; learns = false; has_left = false; has_turned = false }) refl refl refl in
     let r = behind-passed front back left (takers / 2) p xs shifted.1 h.1 out.1 in
     record {
       ys = r.ys;
@@ -183,7 +183,7 @@ gone-behind-passed (l ∷ lfront) lback (s ∷ front) back left takers (t ∷ ts
 gone-behind-passed (l ∷ lfront) lback (s ∷ front) back left takers (t ∷ ts) (g ∷ gs) p [] same shifted bytes h out filed all = absurd h
 gone-behind-passed (l ∷ lfront) lback (s ∷ front) back left takers (t ∷ ts) (g ∷ gs) p (a ∷ xs) same shifted bytes h out filed all =
     let m = out.0 shifted.0 in
-    let one = stays-passed s p a h.0 m (record { is_own = false; is_unjudged = false; learns = false; has_left = false }) refl refl refl in
+    let one = stays-passed s p a h.0 m (record { is_own = false; is_unjudged = false; learns = false; has_left = false; has_turned = false }) refl refl refl in
     let r = gone-behind-passed lfront lback front back left (takers / 2) ts gs p xs (omega (arith, same)) shifted.1 bytes h.1 out.1 filed.1 all.1 in
     record {
       ys = r.ys;

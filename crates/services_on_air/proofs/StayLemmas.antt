@@ -68,7 +68,7 @@ all-pass [] p (a ∷ ys) h left = absurd h
 all-pass (s ∷ ss) p [] h left = absurd h
 all-pass (s ∷ ss) p (a ∷ ys) h left =
     let l = left.0 refl in
-    let one = stays-passed s p a h.0 l (record { is_own = false; is_unjudged = false; learns = false; has_left = false }) refl refl refl in
+    let one = stays-passed s p a h.0 l (record { is_own = false; is_unjudged = false; learns = false; has_left = false; has_turned = false }) refl refl refl in
     let more = all-pass ss p ys h.1 left.1 in
     record {
       stand = (stays-behind s p a h.0 l, more.stand);
@@ -90,7 +90,7 @@ pass-gone (s ∷ ss) (t ∷ ts) [] p ys bytes h left k = absurd k
 pass-gone (s ∷ ss) (t ∷ ts) (g ∷ gs) p [] bytes h left k = absurd h
 pass-gone (s ∷ ss) (t ∷ ts) (g ∷ gs) p (a ∷ ys) bytes h left k =
     let l = left.0 refl in
-    let one = stays-passed s p a h.0 l (record { is_own = false; is_unjudged = false; learns = false; has_left = false }) refl refl refl in
+    let one = stays-passed s p a h.0 l (record { is_own = false; is_unjudged = false; learns = false; has_left = false; has_turned = false }) refl refl refl in
     let (more, put) = pass-gone ss ts gs p ys bytes h.1 left.1 k.1 in (
       (subst (λ b. HasGone s t (gone_on t (aired_as p b) g)) (leaves-is s p a h.0) (stays-gone s p a h.0 l t g bytes k.0), more),
       ap (λ b. put_own b t (aired_as p (leaves a)) g ++ puts_on ts p ys gs) (sym one.own) ∙ put,

@@ -54,6 +54,8 @@ pub(crate) struct AirDesk<M: Allocator> {
     /// All services take the packet that is settled, or that comes next: before it a message was judged, so that cues may go out before it, or a
     /// stretch begins with it; or one of the services left the last packet unjudged; or more PIDs are known since that.
     pub(crate) asks_all: bool,
+    /// With how many packets something has turned in the switch of a service, modulo 2⁶⁴.
+    pub(crate) turns: u64,
 }
 
 impl<M: Allocator> AirDesk<M> {

@@ -45,6 +45,8 @@ pub(crate) struct Passed {
     pub(crate) learns: bool,
     /// Some service left it unjudged.
     pub(crate) has_left: bool,
+    /// With it something has turned in the switch of a service.
+    pub(crate) has_turned: bool,
 }
 
 impl Passed {
@@ -60,6 +62,7 @@ impl Passed {
             is_unjudged: false,
             learns: false,
             has_left: false,
+            has_turned: false,
         }
     }
 
@@ -75,6 +78,7 @@ impl Passed {
             is_unjudged: false,
             learns: false,
             has_left: false,
+            has_turned: false,
         }
     }
 
@@ -98,6 +102,7 @@ impl Passed {
             is_unjudged,
             learns: self.learns || other.learns,
             has_left: self.has_left || other.has_left,
+            has_turned: self.has_turned || other.has_turned,
         }
     }
 }
@@ -112,15 +117,15 @@ pub(crate) struct Numbered<'a> {
 /// One program's service on air. Where a stretch ends it begins anew, and is given the packets and messages of the next one.
 #[derive(Drop)]
 pub(crate) struct AirService {
-    service: Service,
-    marks: Marks,
-    tail: MapTail,
     /// No packet has come.
     is_empty: bool,
     /// Its stretch ends with the packet that came last: with that a service before it shares a PID.
     shares: bool,
     /// It leaves the packet unjudged that was settled last.
     is_unjudged: bool,
+    marks: Marks,
+    service: Service,
+    tail: MapTail,
     /// How many stretches began behind another one; the count stops at the greatest u64.
     begun: u64,
     /// What the stretches that ended counted, summed.
@@ -513,12 +518,14 @@ impl AirService {
             × K.holds out.new start (ps ++ put_on t (aired_as packet.now self.old.is_unjudged) g)) }
         ensures left { IfOk result (λ passed. passed.has_left ≡ self.new.is_unjudged) }
     {
+        let turns = self.service.switch().turns();
         match self.pass_to(packet, library, out) {
             Ok(()) => Ok(Passed {
                 is_own,
                 is_unjudged: self.is_unjudged,
                 learns: self.service.pid_count() != known,
                 has_left: self.is_unjudged,
+                has_turned: self.service.switch().turns() != turns,
             }),
             Err(fault) => Err(fault),
         }

@@ -114,15 +114,16 @@ fn finish_each<K: PacketSink, A: ServicesWatch>(
     }
 }
 
-/// Shows each of these services behind a packet that has passed, where that is asked for.
+/// Shows each of these services behind a packet that has passed, where that is asked for. With so many packets something has turned in one.
 #[inline(always)]
 fn show_each<A: ServicesWatch>(
     services: &[AirService],
+    turns: u64,
     libraries: &[AdLibrary],
     packet: &Packet,
     watch: &mut A,
 ) {
-    if watch.looks(packet) {
+    if watch.looks(packet, turns) {
         show_all(services, libraries, packet, watch);
     }
 }
@@ -202,7 +203,9 @@ impl<M: Allocator + Copy> AirServices<M> {
         let Ok(talk) = Talk::new_in(alloc) else {
             return Err(ServiceFault::OutOfMemory);
         };
-        let mut services = Vec::new(alloc);
+        let Ok(mut services) = Vec::with_capacity(alloc, configs.len()) else {
+            return Err(ServiceFault::OutOfMemory);
+        };
         let Ok(()) = add_services(&mut services, configs) else {
             return Err(ServiceFault::OutOfMemory);
         };
@@ -216,6 +219,7 @@ impl<M: Allocator + Copy> AirServices<M> {
             },
             owners: Owners::new(),
             asks_all: true,
+            turns: 0,
         };
         Ok(AirServices {
             talk,
@@ -315,6 +319,7 @@ impl<M: Allocator> AirServices<M> {
             Err(fault) => return Err(fault),
         };
         self.desk.asks_all = passed.has_left;
+        self.desk.turns = self.desk.turns.wrapping_add(u64::from(passed.has_turned));
         if passed.is_own {
             return Ok(passed);
         }
@@ -425,7 +430,14 @@ impl<M: Allocator> AirServices<M> {
             → ServicesGone self.new ts past takes rs }
         ensures talk { self.new.talk ≡ self.old.talk }
     {
-        show_each(self.desk.services.as_slice(), libraries, last.packet, watch);
+        let desk = &self.desk;
+        show_each(
+            desk.services.as_slice(),
+            desk.turns,
+            libraries,
+            last.packet,
+            watch,
+        );
         self.count(passed.is_unjudged, watch);
         self.part(passed.learns, takers, last, watch);
     }
@@ -444,7 +456,14 @@ impl<M: Allocator> AirServices<M> {
             → ServicesGone self.new ts past takes rs }
         ensures talk { self.new.talk ≡ self.old.talk }
     {
-        show_each(self.desk.services.as_slice(), libraries, packet, watch);
+        let desk = &self.desk;
+        show_each(
+            desk.services.as_slice(),
+            desk.turns,
+            libraries,
+            packet,
+            watch,
+        );
         self.packets = self.packets.saturating_add(1);
     }
 
@@ -631,6 +650,7 @@ impl<M: Allocator> AirServices<M> {
     /// # Errors
     ///
     /// The sink's.
+    #[cold]
     #[inline(never)]
     fn pass_taken<U: Automation, K: PacketSink, A: ServicesWatch>(
         &mut self,

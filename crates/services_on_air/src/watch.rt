@@ -41,8 +41,9 @@ pub trait ServicesWatch {
     /// The packet of this number among those of the network, from 0, is left unjudged.
     fn unjudged(&mut self, packet: u64);
 
-    /// The services are to be shown behind this packet, which has passed. It is asked once for each packet.
-    fn looks(&mut self, packet: &Packet) -> bool;
+    /// The services are to be shown behind this packet, which has passed; with so many packets so far something has turned in one of them, modulo
+    /// 2⁶⁴. It is asked once for each packet.
+    fn looks(&mut self, packet: &Packet, turns: u64) -> bool;
 
     /// This is a service, at such a moment.
     fn shown(&mut self, service: &Service, library: &AdLibrary, shown: Shown<'_>);
@@ -57,7 +58,7 @@ impl ServicesWatch for Unwatched {
     fn unjudged(&mut self, _packet: u64) {}
 
     #[inline(always)]
-    fn looks(&mut self, _packet: &Packet) -> bool {
+    fn looks(&mut self, _packet: &Packet, _turns: u64) -> bool {
         false
     }
 

@@ -119,7 +119,7 @@ impl ServicesWatch for Told {
         self.keep_unjudged(packet);
     }
 
-    fn looks(&mut self, _packet: &Packet) -> bool {
+    fn looks(&mut self, _packet: &Packet, _turns: u64) -> bool {
         false
     }
 

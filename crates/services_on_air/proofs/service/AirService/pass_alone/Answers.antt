@@ -15,7 +15,7 @@ returns-in-Ok-clause-stands g c = λ a h judges by.
     let s = c.args.self.now in
     let p = c.args.packet.now in
     let steps = h.followed.steps in
-    let alone = by.alone a.config steps h.followed.injector in
+    let alone = by a.config steps h.followed.injector in
     let on = alone.goes_on in
     let stands = stands-behind s _ p p a h (is-itself s p a h judges) c.go_on.ensures.config refl refl refl refl (c.go_on.ensures.injector a.config steps alone h.followed.injector) in (
       stands,
@@ -33,7 +33,7 @@ returns-in-Ok-clause-out g c = λ t gone start ps filed h by is_held.
     let call = c.go_on in
     let now = record s { service = call.new.self } in
     let is_out = (λ (l : List (List ℕ)). g.K.PacketSink.holds call.new.out start (ps ++ l)) in
-    let alone = by.alone t.config gone.own h.airs.injector in
+    let alone = by t.config gone.own h.airs.injector in
     let here = subst (λ w. ServiceAirs s.service t.config w gone.own gone.fed) (sym filed) h.airs in
     let went = subst (λ w. PassedOnAir call.new.self t.config w (judged p) gone.own gone.fed is_out) filed (c.in-Ok.ensures.airs t.config gone.own gone.fed start ps alone here is_held) in
     let both = passed-so now t gone (judged p) is_out went (kept-elsewhere s.tail (writing_cues t.config) p (packets_in gone.own) alone.goes_on.elsewhere.map h.tail) h.counted h.lost in

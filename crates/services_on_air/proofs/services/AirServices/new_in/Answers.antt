@@ -15,7 +15,7 @@ returns-clause-ok g c = record {
   n = 0;
   k = 0;
   talks = search rules;
-  all = c.in-Ok-add_services.ensures.stands [] (subst (λ l. AllStand l []) (sym c.new-services.ensures.items) tt);
+  all = c.in-Ok-add_services.ensures.stands [] (subst (λ l. AllStand l []) (sym c.in-Ok-with_capacity.ensures.items) tt);
   packets = refl;
   unjudged = refl;
   owners = all-take IsBeside c.new-2.result _ c.new-2.ensures;
@@ -26,7 +26,7 @@ pub returns-clause-begins : goal.returns-clause-begins
 returns-clause-begins g c = record {
   talks = search rules;
   gone = λ ts e. record {
-    all = c.in-Ok-add_services.ensures.gone [] ts [] e (subst (λ l. AllGone l [] []) (sym c.new-services.ensures.items) tt);
+    all = c.in-Ok-add_services.ensures.gone [] ts [] e (subst (λ l. AllGone l [] []) (sym c.in-Ok-with_capacity.ensures.items) tt);
     none = record {
       index = c.in-Some.first.now.index;
       steps = [];

@@ -1,4 +1,4 @@
-use Rattle.std.proofs.Common.{rules, ◌≡◌, ◌∷◌, ◌++◌, ◌∙◌, false, subst, sym}
+use Rattle.std.proofs.Common.{◌≡◌, ◌∷◌, ◌++◌, ◌∙◌, false, subst, sym}
 use Rattle.std.specs.Prelude.{slice_index_or}
 use Rattle.ts_packet.specs.Fields.{pid_of}
 use Rattle.service_laws.specs.Services.{configs_of}
@@ -14,7 +14,7 @@ returns-in-Ok-clause-stands g c = λ cs past h many.
     let p = c.args.packet.now in
     let takers = c.takers-takers.result in
     let settled = c.in-Some.ensures.stands cs past h in
-    let still : c.hear.new.self.desk.asks_all ≡ false = search rules in
+    let still : c.hear.new.self.desk.asks_all ≡ false = cc in
     let same = c.hear.ensures.quiet cs p past settled still in
     let told : StillTold c.hear.new.self.desk takers p = λ still. subst (λ (d : AirDesk g.row.M.Denot). takers ≡ slice_index_or d.owners (pid_of p) 0) (sym same) c.takers-takers.ensures.value in
     let taker = subst (λ (d : AirDesk g.row.M.Denot). TakerIsStill d c.in-Some.still takers p) (sym same) c.in-Some.ensures.taker in
@@ -31,7 +31,7 @@ returns-in-Ok-clause-out g c = λ ts past before start first apart stood filed h
     let heard = c.hear.ensures.heard ts p past h.takes h.rs first apart settled h.exchanges in
     let before_heard = c.in-Some.ensures.stands cs past stood in
     let st = c.hear.ensures.stands cs p past before_heard in
-    let still : c.hear.new.self.desk.asks_all ≡ false = search rules in
+    let still : c.hear.new.self.desk.asks_all ≡ false = cc in
     let same = c.hear.ensures.quiet cs p past before_heard still in
     let told : StillTold c.hear.new.self.desk takers p = λ still. subst (λ (d : AirDesk g.row.M.Denot). takers ≡ slice_index_or d.owners (pid_of p) 0) (sym same) c.takers-takers.ensures.value in
     let taker = subst (λ (d : AirDesk g.row.M.Denot). TakerIsStill d c.in-Some.still takers p) (sym same) c.in-Some.ensures.taker in
