@@ -21,11 +21,18 @@ use Rattle.report_texts.specs.declared.lines.AirCounts.{AirCounts}
 use Rattle.passages.specs.Runs.{PassesAll, Cues, Serves, AskerTells, lost_replies}
 use Rattle.passages.specs.AirRuns.{AirCues, AirPlays, AirServes, CountsBytes}
 use Rattle.passages.specs.declared.asking.Asker.{Asker}
+use Rattle.dpi_program.specs.declared.ends.NetworkBytes.{NetworkBytes}
+use Rattle.dpi_program.specs.declared.ends.NetworkBytes.TheVariants.{File, Standard}
 
 -- the bytes of the file that was opened, else those of standard input
 abbrev pub known_from : {F : Type 0} → (F → Option (List ℕ)) → Option F → Option (List ℕ) → Option (List ℕ)
 known_from remaining None standard = standard
 known_from remaining (Some file) standard = remaining file
+
+-- what is left of the bytes of a network, where so much is left of a file and of the standard input
+abbrev pub left_in : {F I : Type 0} → (F → Option (List ℕ)) → (I → Option (List ℕ)) → NetworkBytes F I → Option (List ℕ)
+left_in file standard (File f) = file f
+left_in file standard (Standard i) = standard i
 
 -- of `inject` without a library, and of `run` with one: the headline of the network's bytes, where they are known, and exactly which packets
 -- are out

@@ -1,16 +1,17 @@
 //! The ends of a run: the network that it reads, where its packets go, and where the lines of its log go.
 
-ghost use Rattle.std.specs.Prelude.{◌≡◌, None, true, false, is_some, map, option_copied, Any, IfOk, IfErr, IsSome, IsSomeAnd};
+ghost use Rattle.std.specs.Prelude.{◌≡◌, ℕ, List, Option, None, true, false, is_some, map, option_copied, Any, IfOk, IfErr, IsSome, IsSomeAnd};
 ghost use Rattle.std.specs.Fs.{file_type, IsFile};
 ghost use Rattle.run_ends.specs.Ends.{path_of};
 ghost use Rattle.dpi_program.specs.Ends.{IsOpened, IsMade, IsLogMade};
+ghost use Rattle.dpi_program.specs.Runs.{known_from, left_in};
 
 use passages::fault::ProgramFault;
 use passages::running::stopped;
 use passages::tell::{Side, Stopped};
 use run_ends::{End, create_beside, open_input, spare};
 use std::fs::{self, Metadata};
-use std::io::{self, Write};
+use std::io::{self, Read, Write};
 use std::rt::Files;
 
 /// Opens the files of a run, so that a proof knows by which path each of them was opened.
@@ -55,6 +56,28 @@ impl<R: Files> RunFiles for R {
     }
 }
 
+/// The bytes of a network. It is one type for both ends, so that a run is compiled once, not once for each.
+#[derive(Drop)]
+pub(crate) enum NetworkBytes<F, I> {
+    /// Those of a file.
+    File(F),
+    /// Those of the standard input.
+    Standard(I),
+}
+
+impl<F: Read, I: Read> Read for NetworkBytes<F, I> {
+    ghost use Rattle.dpi_program.specs.Runs.{left_in};
+
+    ghost remaining = { λ s. left_in F.remaining I.remaining s };
+
+    fn read(&mut self, buf: &mut [u8]) -> io::Result<usize> {
+        match self {
+            NetworkBytes::File(file) => file.read(buf),
+            NetworkBytes::Standard(input) => input.read(buf),
+        }
+    }
+}
+
 /// The network of a run.
 #[derive(Drop)]
 pub(crate) struct Network<F> {
@@ -71,6 +94,20 @@ impl<F> Network<F> {
         ensures steady { result ≡ false → IsSomeAnd self.now.about (λ about. IsFile (file_type about)) }
     {
         !self.about.as_ref().is_some_and(|about| about.is_file())
+    }
+
+    /// Its bytes, where this is the standard input.
+    pub(crate) fn into_bytes<I>(self, input: I) -> NetworkBytes<F, I>
+    where
+        F: Drop,
+        I: Drop,
+        ensures { (file : F → Option (List ℕ)) (standard : I → Option (List ℕ))
+            → left_in file standard result ≡ known_from file self.file (standard input) }
+    {
+        match self.file {
+            Some(file) => NetworkBytes::File(file),
+            None => NetworkBytes::Standard(input),
+        }
     }
 }
 

@@ -13,19 +13,21 @@ use crate::counting::air_counts;
 use crate::ends::{LogEnd, Network, Outputs, RunFiles, make_output, open_log, open_network};
 use crate::sharing::Sharing;
 use crate::splicing::open_library;
-use crate::telling::{hearing_of, overheard_of, tell_fault, telling_of, warnings_of, with_late};
+use crate::telling::{
+    hearing_of, overheard_of, tell_fault, teller_of, telling_of, warnings_of, with_late,
+};
 use ad_library::AdLibrary;
 use automations::{Reading, Script, ScriptFault, listen, load_into};
 use chain_engine::Report;
 use command_lines::inject_options::{Asking, InjectOptions};
 use event_logs::{Listening, Telling, Warnings};
 use injector::MessageCounts;
-use on_air::{AirWatch, Unwatched};
+use on_air::AirWatch;
 use passages::air_chaining::run_chain_on_air_from;
 use passages::air_kinds::CueingOnAir;
 use passages::air_log::AirLog;
 use passages::air_running::run_on_air_from;
-use passages::air_telling::{AirTeller, TellingInTurn};
+use passages::air_telling::TellingInTurn;
 use passages::asking::Asker;
 use passages::chaining::run_chain_from;
 use passages::fault::ProgramFault;
@@ -218,22 +220,12 @@ where
         );
     }
     let listening = hearing.watch;
-    match told {
-        Some(stream) => {
-            let teller = RefCell::new(AirTeller::new(stream));
-            let watch = &mut AirLog::new(TellingInTurn::new(&teller), listening);
-            let reading = TellingInTurn::new(&teller);
-            run_asked_on_air(
-                alloc, options, is_live, input, asker, library, watch, hearing, reading, output,
-            )
-        }
-        None => {
-            let watch = &mut AirLog::new(Unwatched, listening);
-            run_asked_on_air(
-                alloc, options, is_live, input, asker, library, watch, hearing, Unwatched, output,
-            )
-        }
-    }
+    let teller = teller_of(told);
+    let watch = &mut AirLog::new(TellingInTurn::new(teller.as_ref()), listening);
+    let reading = TellingInTurn::new(teller.as_ref());
+    run_asked_on_air(
+        alloc, options, is_live, input, asker, library, watch, hearing, reading, output,
+    )
 }
 
 /// Loads a script.
@@ -399,14 +391,10 @@ where
     ensures plain { options.now.is_on_air ≡ false → IfOk result (λ injected. injected.air ≡ None) }
 {
     let is_live = network.is_live();
-    match network.file {
-        Some(file) => inject_from(
-            alloc, options, is_live, file, asker, library, told, hearing, output,
-        ),
-        None => inject_from(
-            alloc, options, is_live, input, asker, library, told, hearing, output,
-        ),
-    }
+    let bytes = network.into_bytes(input);
+    inject_from(
+        alloc, options, is_live, bytes, asker, library, told, hearing, output,
+    )
 }
 
 /// Runs between opened ends, and tells of the run.

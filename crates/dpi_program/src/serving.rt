@@ -17,17 +17,18 @@ use crate::counting::air_counts;
 use crate::ends::{LogEnd, Network, Outputs, RunFiles, make_output, open_log, open_network};
 use crate::injecting::open_asker;
 use crate::sharing::Sharing;
-use crate::telling::{hearing_of, overheard_of, tell_fault, telling_of, warnings_of, with_late};
+use crate::telling::{
+    hearing_of, overheard_of, tell_fault, teller_of, telling_of, warnings_of, with_late,
+};
 use ad_library::AdLibrary;
 use chain_services::ServiceReport;
 use command_lines::services_options::ServicesOptions;
 use event_logs::{Listening, Telling, Warnings};
 use injector::MessageCounts;
-use on_air::Unwatched;
 use passages::air_kinds::ServingOnAir;
 use passages::air_log::AirLog;
 use passages::air_running::run_on_air_from;
-use passages::air_telling::{AirTeller, TellingInTurn};
+use passages::air_telling::TellingInTurn;
 use passages::asking::Asker;
 use passages::fault::ProgramFault;
 use passages::kinds::Serving;
@@ -286,24 +287,13 @@ where
     };
     let (configs, libraries) = (list.configs.as_slice(), list.libraries.as_slice());
     let listening = hearing.watch;
-    match told {
-        Some(stream) => {
-            let teller = RefCell::new(AirTeller::new(stream));
-            let watch = &mut AirLog::new(TellingInTurn::new(&teller), listening);
-            let reading = TellingInTurn::new(&teller);
-            run_on_air(
-                alloc, is_verbose, is_live, input, asker, configs, services, libraries, watch,
-                hearing, reading, output,
-            )
-        }
-        None => {
-            let watch = &mut AirLog::new(Unwatched, listening);
-            run_on_air(
-                alloc, is_verbose, is_live, input, asker, configs, services, libraries, watch,
-                hearing, Unwatched, output,
-            )
-        }
-    }
+    let teller = teller_of(told);
+    let watch = &mut AirLog::new(TellingInTurn::new(teller.as_ref()), listening);
+    let reading = TellingInTurn::new(teller.as_ref());
+    run_on_air(
+        alloc, is_verbose, is_live, input, asker, configs, services, libraries, watch, hearing,
+        reading, output,
+    )
 }
 
 /// What a run is opened with, but where its packets go.
@@ -402,14 +392,10 @@ where
     ensures plain { on_air ≡ None → IfOk result (λ served. served.air ≡ None) }
 {
     let is_live = network.is_live();
-    match network.file {
-        Some(file) => run_services_from(
-            alloc, is_verbose, is_live, file, asker, list, on_air, told, hearing, output,
-        ),
-        None => run_services_from(
-            alloc, is_verbose, is_live, input, asker, list, on_air, told, hearing, output,
-        ),
-    }
+    let bytes = network.into_bytes(input);
+    run_services_from(
+        alloc, is_verbose, is_live, bytes, asker, list, on_air, told, hearing, output,
+    )
 }
 
 /// Runs between opened ends, on air where there are services for that, and tells of the run.

@@ -16,16 +16,16 @@ ghost use Rattle.dpi_program.specs.Commands.{SplicesOnAirBetween, SplicesOnAirTo
 use crate::counting::air_counts;
 use crate::ends::{LogEnd, Network, Outputs, RunFiles, make_output, open_log, open_network};
 use crate::sharing::Sharing;
-use crate::telling::{tell_fault, telling_of, warnings_of};
+use crate::telling::{tell_fault, teller_of, telling_of, warnings_of};
 use ad_library::AdLibrary;
 use ad_lists::{ListFault, Loading, load_into};
 use command_lines::splice_options::SpliceOptions;
 use event_logs::{Listening, Telling, Warnings};
-use on_air::{AirWatch, Unwatched};
+use on_air::AirWatch;
 use passages::air_kinds::SplicingOnAir;
 use passages::air_log::AirLog;
 use passages::air_running::run_on_air_from;
-use passages::air_telling::{AirTeller, TellingInTurn};
+use passages::air_telling::TellingInTurn;
 use passages::fault::ProgramFault;
 use passages::kinds::{Splicing, Unasked};
 use passages::recovery_watch::RecoveryWatch;
@@ -203,22 +203,12 @@ where
         (O.contents output.old) (O.contents output.new)) }
 {
     if options.is_on_air {
-        return match told {
-            Some(stream) => {
-                let teller = RefCell::new(AirTeller::new(stream));
-                let watch = &mut AirLog::new(TellingInTurn::new(&teller), listening);
-                let reading = TellingInTurn::new(&teller);
-                splice_watched(
-                    alloc, options, is_live, input, library, watch, listening, reading, output,
-                )
-            }
-            None => {
-                let watch = &mut AirLog::new(Unwatched, listening);
-                splice_watched(
-                    alloc, options, is_live, input, library, watch, listening, Unwatched, output,
-                )
-            }
-        };
+        let teller = teller_of(told);
+        let watch = &mut AirLog::new(TellingInTurn::new(teller.as_ref()), listening);
+        let reading = TellingInTurn::new(teller.as_ref());
+        return splice_watched(
+            alloc, options, is_live, input, library, watch, listening, reading, output,
+        );
     }
     let watched = options.is_verbose.then_some(options.config.cue_pid);
     let passage = Splicing {
@@ -313,14 +303,10 @@ where
     } = opened;
     let is_live = network.is_live();
     let listening = Listening::new(&telling);
-    let ran = match network.file {
-        Some(file) => splice_from(
-            alloc, options, is_live, file, &library, told, listening, output,
-        ),
-        None => splice_from(
-            alloc, options, is_live, input, &library, told, listening, output,
-        ),
-    };
+    let bytes = network.into_bytes(input);
+    let ran = splice_from(
+        alloc, options, is_live, bytes, &library, told, listening, output,
+    );
     let mut spliced = tell_fault(&telling, ran)?;
     let (report, air) = (spliced.report, spliced.air);
     listening.write(|log| log.report(None, Some(report), air));

@@ -3,6 +3,7 @@
 ghost use Rattle.std.specs.Prelude.{◌≡◌, None, IfErr, IfOk, true, false, is_ok, is_some};
 
 use event_logs::{EventLog, Listening, Telling, Warnings};
+use passages::air_telling::AirTeller;
 use passages::asking::Asker;
 use passages::fault::{ProgramFault, fault_name};
 use passages::running::{out_of_memory, stopped};
@@ -24,6 +25,14 @@ pub(crate) fn telling_of<W: Write, E: Write>(
         Some(Warnings::new())
     };
     RefCell::new(Telling::new(log.map(EventLog::new), warnings, alarm))
+}
+
+/// What tells of a run on air on this stream, where there is one.
+pub(crate) fn teller_of<T: Write + Drop>(told: Option<T>) -> Option<RefCell<AirTeller<T>>> {
+    match told {
+        Some(stream) => Some(RefCell::new(AirTeller::new(stream))),
+        None => None,
+    }
 }
 
 /// Memory for the messages of an automation, where each is to be told.

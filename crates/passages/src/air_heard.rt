@@ -16,19 +16,19 @@ use ad_library::AdLibrary;
 use automations::Sessions;
 use chain_engine::{Automation, Chain, Report, RunFault};
 use chain_services::ServiceReport;
-use on_air::{AirReport, AirWatch, inject_on_air, run_on_air, splice_on_air};
+use on_air::{AirReport, AirWatch};
 use psi_tables::Config;
 use run_events::{
     HeardAutomation, Hearing, Watch, inject_told_on_air, run_told_on_air, services_told_on_air,
     splice_told_on_air,
 };
-use services_on_air::{AirServices, ServicesWatch, run_services_on_air};
+use services_on_air::{AirServices, ServicesWatch};
 use splice_plans::SwitchReport;
 use std::alloc::Allocator;
 use ts_packet::{GatheringSink, PausingPackets};
 
-/// Runs [`inject_told_on_air`], and listens to the automation besides where each request is told. Where nothing is told, it is the run
-/// alone.
+/// Runs [`inject_told_on_air`], and listens to the automation besides where each request is told. Where nothing is told, it is looked
+/// at all the same.
 ///
 /// # Errors
 ///
@@ -61,16 +61,13 @@ where
         let mut heard = HeardAutomation::new(automation, hearing);
         return inject_told_on_air(chain, network, &mut heard, out, watch, told);
     }
-    if !told.is_on() {
-        return inject_on_air(chain, network, automation, out, watch);
-    }
     let ended = inject_told_on_air(chain, network, automation, out, watch, told);
     hearing.tell_closed(&*automation);
     ended
 }
 
-/// Runs [`run_told_on_air`], and listens to the automation besides where each request is told. Where nothing is told, it is the run
-/// alone.
+/// Runs [`run_told_on_air`], and listens to the automation besides where each request is told. Where nothing is told, it is looked
+/// at all the same.
 ///
 /// # Errors
 ///
@@ -105,16 +102,13 @@ where
         let mut heard = HeardAutomation::new(automation, hearing);
         return run_told_on_air(chain, network, &mut heard, library, out, watch, told);
     }
-    if !told.is_on() {
-        return run_on_air(chain, network, automation, library, out, watch);
-    }
     let ended = run_told_on_air(chain, network, automation, library, out, watch, told);
     hearing.tell_closed(&*automation);
     ended
 }
 
-/// Runs [`services_told_on_air`], and listens to the automation besides where each request is told. Where nothing is told, it is the run
-/// alone.
+/// Runs [`services_told_on_air`], and listens to the automation besides where each request is told. Where nothing is told, it is looked
+/// at all the same.
 ///
 /// # Errors
 ///
@@ -150,15 +144,12 @@ where
         let mut heard = HeardAutomation::new(automation, hearing);
         return services_told_on_air(services, network, &mut heard, libraries, out, watch, told);
     }
-    if !told.is_on() {
-        return run_services_on_air(services, network, automation, libraries, out, watch);
-    }
     let ended = services_told_on_air(services, network, automation, libraries, out, watch, told);
     hearing.tell_closed(&*automation);
     ended
 }
 
-/// Runs [`splice_told_on_air`]. Where nothing is told, it is the run alone.
+/// Runs [`splice_told_on_air`]. Where nothing is told, it is looked at all the same.
 ///
 /// # Errors
 ///
@@ -183,8 +174,5 @@ where
     ensures reads { P.leads network.old network.new }
     ensures leads { K.leads out.old out.new }
 {
-    if told.is_on() {
-        return splice_told_on_air(config, network, library, out, watch, told);
-    }
-    splice_on_air(config, network, library, out, watch)
+    splice_told_on_air(config, network, library, out, watch, told)
 }

@@ -61,7 +61,7 @@ impl<A: ServicesWatch, W: Write, E: Write> ServicesWatch for AirLog<'_, A, W, E>
         self.listening.write(|log| log.leave(packet));
     }
 
-    fn looks(&mut self, _packet: &Packet) -> bool {
+    fn looks(&mut self, _packet: &Packet, _turns: u64) -> bool {
         false
     }
 

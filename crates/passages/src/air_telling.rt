@@ -115,40 +115,62 @@ impl<W: Write> RecoveryWatch for AirTeller<W> {
         }
         self.recovery = *recovery;
     }
+
+    fn is_on(&self) -> bool {
+        true
+    }
 }
 
-/// A teller to which the stages of a run and its reader tell in turn.
+/// A teller, where there is one, to which the stages of a run and its reader tell in turn. Where there is none, nothing is told: it is one type for
+/// both, so that a run is compiled once, not once for each.
 #[derive(Drop)]
 pub struct TellingInTurn<'a, W> {
-    teller: &'a RefCell<AirTeller<W>>,
+    teller: Option<&'a RefCell<AirTeller<W>>>,
 }
 
 impl<'a, W> TellingInTurn<'a, W> {
     /// Tells this teller.
-    pub fn new(teller: &'a RefCell<AirTeller<W>>) -> TellingInTurn<'a, W> {
+    pub fn new(teller: Option<&'a RefCell<AirTeller<W>>>) -> TellingInTurn<'a, W> {
         TellingInTurn { teller }
     }
 }
 
 impl<W: Write> AirWatch for TellingInTurn<'_, W> {
     fn begun(&mut self, begun: &Begun) {
-        if let Ok(mut teller) = self.teller.try_borrow_mut() {
+        let Some(teller) = self.teller else {
+            return;
+        };
+        if let Ok(mut teller) = teller.try_borrow_mut() {
             AirWatch::begun(&mut *teller, begun);
         }
     }
 
     fn unjudged(&mut self, packet: u64) {
-        if let Ok(mut teller) = self.teller.try_borrow_mut() {
+        let Some(teller) = self.teller else {
+            return;
+        };
+        if let Ok(mut teller) = teller.try_borrow_mut() {
             AirWatch::unjudged(&mut *teller, packet);
         }
     }
 }
 
 impl<W: Write> RecoveryWatch for TellingInTurn<'_, W> {
+    /// It stands by itself, since most runs are not told of.
+    #[cold]
+    #[inline(never)]
     fn read(&mut self, recovery: &Recovery) {
-        if let Ok(mut teller) = self.teller.try_borrow_mut() {
+        let Some(teller) = self.teller else {
+            return;
+        };
+        if let Ok(mut teller) = teller.try_borrow_mut() {
             teller.read(recovery);
         }
+    }
+
+    #[inline(always)]
+    fn is_on(&self) -> bool {
+        self.teller.is_some()
     }
 }
 
@@ -170,7 +192,7 @@ impl<W: Write> ServicesWatch for AirTeller<W> {
         AirWatch::unjudged(self, packet);
     }
 
-    fn looks(&mut self, _packet: &Packet) -> bool {
+    fn looks(&mut self, _packet: &Packet, _turns: u64) -> bool {
         false
     }
 
@@ -181,7 +203,10 @@ impl<W: Write> ServicesWatch for AirTeller<W> {
 
 impl<W: Write> ServicesWatch for TellingInTurn<'_, W> {
     fn begun(&mut self, begun: &ServiceBegun) {
-        if let Ok(mut teller) = self.teller.try_borrow_mut() {
+        let Some(teller) = self.teller else {
+            return;
+        };
+        if let Ok(mut teller) = teller.try_borrow_mut() {
             ServicesWatch::begun(&mut *teller, begun);
         }
     }
@@ -190,7 +215,7 @@ impl<W: Write> ServicesWatch for TellingInTurn<'_, W> {
         AirWatch::unjudged(self, packet);
     }
 
-    fn looks(&mut self, _packet: &Packet) -> bool {
+    fn looks(&mut self, _packet: &Packet, _turns: u64) -> bool {
         false
     }
 

@@ -7,24 +7,22 @@ ghost use Rattle.psi_tables.specs.declared.config.Config.{Config};
 ghost use Rattle.ad_library.specs.Library.{held};
 ghost use Rattle.chain_engine.specs.Chains.{ChainStandsFor};
 ghost use Rattle.chain_engine.specs.Runs.{Exchanged, InjectsAll, InjectStops, NetworkBlamed, OutputBlamed};
-ghost use Rattle.chain_engine.specs.Splices.{SplicesAll, SpliceStops, NetworkBlamedToEnd};
+ghost use Rattle.chain_engine.specs.Splices.{NetworkBlamedToEnd};
 ghost use Rattle.chain_engine.specs.ChainRuns.{RunsAll, ChainStops};
 ghost use Rattle.chain_services.specs.Serving.{services_in};
 ghost use Rattle.chain_services.specs.Runs.{ServicesStandFor, ServicesRunAll, ServicesStop, terms_by};
 
 use ad_library::AdLibrary;
 use automations::Sessions;
-use chain_engine::{Automation, Chain, Report, RunFault, run, run_inject, run_splice};
-use chain_services::{ServiceReport, Services, run_services};
+use chain_engine::{Automation, Chain, Report, RunFault};
+use chain_services::{ServiceReport, Services};
 use psi_tables::Config;
-use run_events::{
-    HeardAutomation, Hearing, Watch, inject_told, run_told, services_told, splice_told,
-};
-use splice_plans::SwitchReport;
+use run_events::{HeardAutomation, Hearing, Watch, inject_told, run_told, services_told};
 use std::alloc::Allocator;
 use ts_packet::{GatheringSink, PausingPackets, ReadFault};
 
-/// Runs [`inject_told`], and listens to the automation besides where each request is told. Where nothing is told, it is the run alone.
+/// Runs [`inject_told`], and listens to the automation besides where each request is told. Where nothing is told, it is
+/// looked at all the same, which costs a packet one look.
 ///
 /// # Errors
 ///
@@ -68,13 +66,11 @@ pub(crate) fn inject_heard<
         let mut heard = HeardAutomation::new(automation, hearing);
         return inject_told(chain, network, &mut heard, out, watch);
     }
-    if watch.is_on() {
-        return inject_told(chain, network, automation, out, watch);
-    }
-    run_inject(chain, network, automation, out)
+    inject_told(chain, network, automation, out, watch)
 }
 
-/// Runs [`run_told`], and listens to the automation besides where each request is told. Where nothing is told, it is the run alone.
+/// Runs [`run_told`], and listens to the automation besides where each request is told. Where nothing is told, it is
+/// looked at all the same, which costs a packet one look.
 ///
 /// # Errors
 ///
@@ -119,13 +115,11 @@ pub(crate) fn run_heard<
         let mut heard = HeardAutomation::new(automation, hearing);
         return run_told(chain, network, &mut heard, library, out, watch);
     }
-    if watch.is_on() {
-        return run_told(chain, network, automation, library, out, watch);
-    }
-    run(chain, network, automation, library, out)
+    run_told(chain, network, automation, library, out, watch)
 }
 
-/// Runs [`services_told`], and listens to the automation besides where each request is told. Where nothing is told, it is the run alone.
+/// Runs [`services_told`], and listens to the automation besides where each request is told. Where nothing is told, it is
+/// looked at all the same, which costs a packet one look.
 ///
 /// # Errors
 ///
@@ -171,45 +165,5 @@ pub(crate) fn services_heard<
         let mut heard = HeardAutomation::new(automation, hearing);
         return services_told(services, network, &mut heard, libraries, out, watch);
     }
-    if watch.is_on() {
-        return services_told(services, network, automation, libraries, out, watch);
-    }
-    run_services(services, network, automation, libraries, out)
-}
-
-/// Runs [`splice_told`]. Where nothing is told, it is the run alone.
-///
-/// # Errors
-///
-/// As for [`splice_told`].
-#[inline(always)]
-pub(crate) fn splice_heard<P: PausingPackets, K: GatheringSink, V: Watch + Drop>(
-    config: Config,
-    network: &mut P,
-    library: &AdLibrary,
-    out: &mut K,
-    watch: V,
-) -> Result<SwitchReport, RunFault>
-    requires { P.is_broken network.old ≡ false }
-    ensures ok { (start : Option (List ℕ)) (before : List (List ℕ)) → K.holds out.old start before
-        → IfOk result (SplicesAll config (held library.now) (P.left network.old) (λ ps. K.holds out.new start (before ++ ps))) }
-    ensures err { (start : Option (List ℕ)) (before : List (List ℕ)) → K.holds out.old start before
-        → IfErr result (λ f. SpliceStops config (held library.now) f (P.left network.old)
-        (λ ps. K.holds out.new start (before ++ ps)) (λ ps. K.fails out.new start (before ++ ps))
-        (λ ps. K.fails_to_send out.new start (before ++ ps))) }
-    ensures read { OnOk result (SourceCounts false (P.has_ended network.old) (P.has_ended network.new)
-        (P.counts network.old) (P.counts network.new)) }
-    ensures wrote { OnOk result (WentWell (K.counts out.old) (K.counts out.new)) }
-    ensures reading { IfErr result (λ f. NetworkBlamedToEnd f (P.has_ended network.old) (P.has_ended network.new)
-        (P.counts network.old) (P.counts network.new)) }
-    ensures writing { IfErr result (λ f. OutputBlamed f (K.counts out.old) (K.counts out.new) (K.is_full out.new)) }
-    ensures turns { result ≡ Err (RunFault.Read ReadFault.Turns)
-        → Stalled P.leads P.counts P.falls_short network.old network.new ⊎ Exhausted P.left P.given network.old }
-    ensures reads { P.leads network.old network.new }
-    ensures leads { K.leads out.old out.new }
-{
-    if watch.is_on() {
-        return splice_told(config, network, library, out, watch);
-    }
-    run_splice(config, network, library, out)
+    services_told(services, network, automation, libraries, out, watch)
 }

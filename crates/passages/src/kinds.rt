@@ -3,7 +3,6 @@
 
 use crate::asking::{Asker, cue, play, serve, told_fault};
 use crate::fault::ProgramFault;
-use crate::heard::splice_heard;
 use crate::running::Passage;
 use ad_library::AdLibrary;
 use chain_engine::{Chain, Report};
@@ -13,7 +12,7 @@ use command_lines::inject_options::InjectOptions;
 use command_lines::splice_options::SpliceOptions;
 use packet_lines::LinesFault;
 use psi_tables::Config;
-use run_events::{Hearing, Watch};
+use run_events::{Hearing, Watch, splice_told};
 use splice_plans::SwitchReport;
 use std::alloc::Global;
 use std::io::{Read, Write};
@@ -97,7 +96,7 @@ impl<V: Watch + Drop> Passage<Unasked> for Splicing<'_, V> {
             library,
             watch,
         } = self;
-        match splice_heard(options.config, network, library, out, watch) {
+        match splice_told(options.config, network, library, out, watch) {
             Ok(report) => Ok(report),
             Err(fault) => Err(ProgramFault::Run(fault)),
         }

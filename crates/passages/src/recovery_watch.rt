@@ -33,11 +33,19 @@ impl Recovery {
 pub trait RecoveryWatch {
     /// The next packet was read, or the end.
     fn read(&mut self, recovery: &Recovery);
+
+    /// Reads are to be told.
+    fn is_on(&self) -> bool;
 }
 
 impl RecoveryWatch for Unwatched {
     #[inline(always)]
     fn read(&mut self, _recovery: &Recovery) {}
+
+    #[inline(always)]
+    fn is_on(&self) -> bool {
+        false
+    }
 }
 
 /// A source of packets among bytes that need not all be packets.
@@ -171,10 +179,14 @@ impl<P: RecoveringPackets + Drop, V: Drop> ToldPackets<P, V> {
 impl<P: RecoveringPackets, V: RecoveryWatch> ToldPackets<P, V> {
     ghost use Rattle.std.specs.Prelude.{◌≡◌};
 
-    /// Tells of what was read.
+    /// Tells of what was read, where that is to be told.
+    #[inline(always)]
     fn tell(&mut self)
         ensures { self.new.inner ≡ self.old.inner }
     {
+        if !self.watch.is_on() {
+            return;
+        }
         let recovery = Recovery {
             packets: self.packets,
             place: self.inner.place(),

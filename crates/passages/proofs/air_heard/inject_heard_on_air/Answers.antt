@@ -9,8 +9,5 @@ returns-then-is_detailed-clause-done g c = λ d start h out. if_ok_so c.inject_t
     (g.K.PacketSink.holds c.inject_told_on_air.new.out start) d (g.P.PacketSource.left c.args.network.now) report)
     (air_cues _ (g.P.PacketSource.left c.args.network.now) (g.K.PacketSink.holds c.inject_told_on_air.new.out start) c.inject_told_on_air.result d (λ bs e. c.inject_told_on_air.ensures.out d start [] bs h out e) (λ bs e. c.inject_told_on_air.ensures.stretches d start [] bs h out e))
 
-pub returns-then-not-is_on-clause-done : goal.returns-then-not-is_on-clause-done
-returns-then-not-is_on-clause-done g c = λ d start h out. air_cues _ (g.P.PacketSource.left c.args.network.now) (g.K.PacketSink.holds c.inject_on_air.new.out start) c.inject_on_air.result d (λ bs e. c.inject_on_air.ensures.out d start [] bs h out e) (λ bs e. c.inject_on_air.ensures.stretches d start [] bs h out e)
-
 pub returns-clause-done : goal.returns-clause-done
 returns-clause-done g c = λ d start h out. air_cues _ (g.P.PacketSource.left c.args.network.now) (g.K.PacketSink.holds c.inject_told_on_air-ended.new.out start) c.inject_told_on_air-ended.result d (λ bs e. c.inject_told_on_air-ended.ensures.out d start [] bs h out e) (λ bs e. c.inject_told_on_air-ended.ensures.stretches d start [] bs h out e)

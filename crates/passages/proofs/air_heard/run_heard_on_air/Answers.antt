@@ -11,10 +11,6 @@ returns-then-is_detailed-clause-done g c = λ d start h out. if_ok_so c.run_told
     (air_plays _ (g.P.PacketSource.left c.args.network.now) (g.K.PacketSink.holds c.run_told_on_air.new.out start) c.run_told_on_air.result d (held c.args.library.now) (λ bs e. c.run_told_on_air.ensures.out d start [] bs h out e) (λ bs e. c.run_told_on_air.ensures.stretches d start [] bs h out e)
     c.run_told_on_air.ensures.bytes)
 
-pub returns-then-not-is_on-clause-done : goal.returns-then-not-is_on-clause-done
-returns-then-not-is_on-clause-done g c = λ d start h out. air_plays _ (g.P.PacketSource.left c.args.network.now) (g.K.PacketSink.holds c.run_on_air.new.out start) c.run_on_air.result d (held c.args.library.now) (λ bs e. c.run_on_air.ensures.out d start [] bs h out e) (λ bs e. c.run_on_air.ensures.stretches d start [] bs h out e)
-    c.run_on_air.ensures.bytes
-
 pub returns-clause-done : goal.returns-clause-done
 returns-clause-done g c = λ d start h out. air_plays _ (g.P.PacketSource.left c.args.network.now) (g.K.PacketSink.holds c.run_told_on_air-ended.new.out start) c.run_told_on_air-ended.result d (held c.args.library.now) (λ bs e. c.run_told_on_air-ended.ensures.out d start [] bs h out e) (λ bs e. c.run_told_on_air-ended.ensures.stretches d start [] bs h out e)
     c.run_told_on_air-ended.ensures.bytes

@@ -11,10 +11,6 @@ returns-then-is_detailed-clause-done g c = λ cs start stands begins long out. i
     (air_serves _ (g.P.PacketSource.left c.args.network.now) (g.K.PacketSink.holds c.services_told_on_air.new.out start) c.args.services c.services_told_on_air.result cs c.args.libraries.now stands begins long
     (λ ts bs st be filed e. c.services_told_on_air.ensures.out ts start [] bs st be filed out e) (λ bs e. c.services_told_on_air.ensures.stretches cs bs stands long e))
 
-pub returns-then-not-is_on-clause-done : goal.returns-then-not-is_on-clause-done
-returns-then-not-is_on-clause-done g c = λ cs start stands begins long out. air_serves _ (g.P.PacketSource.left c.args.network.now) (g.K.PacketSink.holds c.run_services_on_air.new.out start) c.args.services c.run_services_on_air.result cs c.args.libraries.now stands begins long
-    (λ ts bs st be filed e. c.run_services_on_air.ensures.out ts start [] bs st be filed out e) (λ bs e. c.run_services_on_air.ensures.stretches cs bs stands long e)
-
 pub returns-clause-done : goal.returns-clause-done
 returns-clause-done g c = λ cs start stands begins long out. air_serves _ (g.P.PacketSource.left c.args.network.now) (g.K.PacketSink.holds c.services_told_on_air-ended.new.out start) c.args.services c.services_told_on_air-ended.result cs c.args.libraries.now stands begins long
     (λ ts bs st be filed e. c.services_told_on_air-ended.ensures.out ts start [] bs st be filed out e) (λ bs e. c.services_told_on_air-ended.ensures.stretches cs bs stands long e)
