@@ -6,9 +6,10 @@ use Rattle.unit_stream.specs.Times.{begins, begins_one, high, raised, stamp}
 use Rattle.program_follower.specs.declared.purpose.Purpose.{Purpose}
 use Rattle.program_follower.specs.declared.start_follower.StartPlace.TheVariants as places
 use Rattle.program_follower.specs.declared.starts.StartPacket.{StartPacket}
+use Rattle.program_follower.specs.declared.starts.StreamPart.{StreamPart}
 use Rattle.program_follower.specs.Program.{Program, program_of, behind_head, pids_of}
 use Rattle.program_follower.specs.Streaming.{first_on, IsStartPacket}
-use Rattle.program_follower.specs.Following.{grown, high_of, IsStartPlace, may_rise}
+use Rattle.program_follower.specs.Following.{Since, grown, high_of, IsPartOf, IsStartPlace, may_rise}
 use Rattle.program_follower.proofs.FollowLemmas.{program_stays, grown_is, no_high}
 use Rattle.program_follower.proofs.StreamLemmas.{none_begins, none_high, is_one}
 
@@ -43,6 +44,24 @@ still_stream c p past i x h none =
     let (pid, both) = h.2 in
     let one = is_one pids p b (i, pid) both.0 in
     still c.program p past (ap (λ t. if t then raised (high pids b) (stamp p) else high pids b) (one.begins_it ∙ none pid both.1))
+
+-- where no unit begins with it the greatest time stays
+pub part_still : (c : Purpose) (x : StreamPart) (p : List ℕ) (past : List (List ℕ)) → IsPartOf c x p past
+    → ((pid : ℕ) → IsStartPacket x.part (pids_of (program_of c.program past)) pid p (behind_head c.program past) → begins pid p (behind_head c.program past) ≡ false)
+    → high_of c.program (p ∷ past) ≡ high_of c.program past
+part_still c x p past g none = still_stream c p past x.stream x.part (g.elsewhere.cue, g.elsewhere.map, g.place) none
+
+-- behind the head the greatest time is that of the streams that are known
+pub high_grown : (wanted : Option ℕ) (p : List ℕ) (past : List (List ℕ)) (r : Program) → program_of wanted past ≡ Some r
+    → high_of wanted (p ∷ past) ≡ high (pids_of (program_of wanted past)) (p ∷ behind_head wanted past)
+high_grown wanted p past r is =
+    ap (λ x. high (pids_of x) (behind_head wanted (p ∷ past))) (program_stays wanted p past r is ∙ sym is)
+    ∙ ap (high (pids_of (program_of wanted past))) (sym (grown_is wanted p past) ∙ ap (λ x. grown x p (behind_head wanted past)) is)
+
+pub since_known : {S : Type 0} (reads : S → List ℕ → List (List ℕ) → Type 0) (s : S) (o : Option Program) (past : List (List ℕ)) → Since reads (Some s) o past
+    → (r : Program) × (o ≡ Some r)
+since_known reads s None past h = absurd h
+since_known reads s (Some r) past h = (r, refl)
 
 -- ---- exactly when it may rise
 

@@ -12,7 +12,7 @@ use Rattle.program_follower.specs.declared.streams.Streams.{Streams}
 use Rattle.program_follower.specs.declared.starts.Starts.{Starts}
 use Rattle.program_follower.specs.declared.streams.StreamPacket.{StreamPacket}
 use Rattle.program_follower.specs.declared.starts.StartPacket.{StartPacket}
-use Rattle.program_follower.specs.declared.starts.StartPacket.TheVariants as start_packets
+use Rattle.program_follower.specs.declared.starts.StreamPart.{StreamPart}
 use Rattle.program_follower.specs.declared.follower.ProgramFollower.{ProgramFollower}
 use Rattle.program_follower.specs.declared.start_follower.StartFollower.{StartFollower}
 use Rattle.program_follower.specs.declared.follower.FollowFault.{FollowFault}
@@ -25,7 +25,7 @@ use Rattle.program_follower.specs.Program.{listed, Program, program_of, behind_h
 use Rattle.program_follower.specs.Faults.{is_pid, on_cue, network_fault}
 use Rattle.program_follower.specs.Standing.{TablesRead, TablesShow}
 use Rattle.program_follower.specs.PidUses.{HasUses}
-use Rattle.program_follower.specs.Streaming.{is_more, first_on, place_in, StreamsRead, StartsRead, IsOfStream, IsOfStarts}
+use Rattle.program_follower.specs.Streaming.{is_clear, first_on, place_in, StreamsRead, StartsRead, IsOfStream, IsOfStarts}
 
 -- the streams are followed from the end of the head on
 abbrev pub Since : {S : Type 0} → (S → List ℕ → List (List ℕ) → Type 0) → Option S → Option Program → List (List ℕ) → Type 0
@@ -141,16 +141,14 @@ IsStartPlace (start_places.Stream i x) c p past = (on_cue c.cue_pid p ≡ false)
 IsStartPlace start_places.Other c p past = (on_cue c.cue_pid p ≡ false) × (on_map (listed c.program past) p ≡ false)
     × (first_on (pids_of (program_of c.program past)) p ≡ None)
 
--- A packet that goes on with what came before it in a switched stream: it is of no table and no cue, nothing is wrong with it, no unit begins
--- with it, and the greatest time stays.
-pub record IsMoreOf (c : Purpose) (stream : ℕ) (p : List ℕ) (past : List (List ℕ)) : Type 0 where
+-- A packet of a switched stream that has a payload and with which nothing is wrong, of no table and no cue: this is what it is to its stream.
+pub record IsPartOf (c : Purpose) (x : StreamPart) (p : List ℕ) (past : List (List ℕ)) : Type 0 where
   pub listed : is_some (listed c.program past) ≡ true
   pub elsewhere : IsElsewhere c p past
   pub sound : network_fault c p past ≡ None
-  pub more : is_more p ≡ true
-  pub here : Some stream ≡ place_in (pids_of (program_of c.program past)) p
-  pub place : IsOfStartsAt (Some (stream, start_packets.NoStart)) c p past
-  pub high : high_of c.program (p ∷ past) ≡ high_of c.program past
+  pub clear : is_clear p ≡ true
+  pub here : Some x.stream ≡ place_in (pids_of (program_of c.program past)) p
+  pub place : IsOfStartsAt (Some (x.stream, x.part)) c p past
 
 -- a unit of a switched stream begins with the packet, or it is on the PID of the map or on that of the cues: with no other the greatest
 -- time rises

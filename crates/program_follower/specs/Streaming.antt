@@ -90,9 +90,9 @@ abbrev pub IsStartPacket : StartPacket → List ℕ → ℕ → List ℕ → Lis
 IsStartPacket (starts.Start begun) pids pid p past = (begins pid p past ≡ true) × Tells begun (high pids past) (stamp p)
 IsStartPacket starts.NoStart pids pid p past = begins pid p past ≡ false
 
--- a packet of a stream that goes on with what came before: it has a payload, which is not scrambled, and no start bit (ISO/IEC 13818-1, 2.4.3.3)
-abbrev pub is_more : List ℕ → Bool
-is_more p = not (unit_start p) && (not (scrambled p) && is_some (payload p))
+-- a packet has a payload, which is not scrambled (ISO/IEC 13818-1, 2.4.3.3)
+abbrev pub is_clear : List ℕ → Bool
+is_clear p = not (scrambled p) && is_some (payload p)
 
 -- of which stream it is, and what it is there to such a reader
 abbrev pub IsOfStarts : Option (ℕ × StartPacket) → List ℕ → List ℕ → List (List ℕ) → Type 0

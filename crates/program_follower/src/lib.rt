@@ -23,7 +23,7 @@ pub use map_reader::MapReader;
 pub use pat_reader::PatReader;
 pub use purpose::{Listed, Purpose};
 pub use start_follower::{StartFollower, StartPlace};
-pub use starts::{StartPacket, Starts, UnitStart};
+pub use starts::{StartPacket, Starts, StreamPart, UnitStart};
 pub use streams::{StreamPacket, Streams};
 pub use table_reader::{OnTables, TableReader};
 pub use tables::{LentTable, Tables};

@@ -55,6 +55,18 @@ impl PidUses {
         uses
     }
 
+    /// Begins anew, as [`PidUses::new`] does, in the same place.
+    pub(crate) fn begin_anew(&mut self, cue_pid: Pid)
+        ensures pat { IsTablePid (slice_index_or self.new 0 0) }
+        ensures cue { IsTablePid (slice_index_or self.new cue_pid 0) }
+        ensures rest { (pid : ℕ) → pid < 8192 → pid ≢ 0 → pid ≢ cue_pid → slice_index_or self.new pid 0 ≤ 8 }
+        ensures places { HasPlacesElsewhere self.new [] }
+    {
+        self.numbers = [0; 8192];
+        self.add_table(Pid::of_bits(0, 0));
+        self.add_table(cue_pid);
+    }
+
     /// Each PID is of tables from now on: each packet goes the way of those.
     pub(crate) fn watch_all(&mut self)
         ensures { (pid : ℕ) → pid < 8192 → IsTablePid (slice_index_or self.new pid 0) }

@@ -12,13 +12,13 @@ ghost use Rattle.program_follower.specs.PidUses.{IsTablePid, HasPlacesElsewhere}
 ghost use Rattle.program_follower.specs.Standing.{tables_left, lent_program};
 ghost use Rattle.program_follower.specs.Streaming.{IsOfStarts, place_in, start_in};
 ghost use Rattle.program_follower.specs.Following.{StartsStandFor, StartsShow, IsUnfollowed, OfStartPast, OfStreamPast, OfBegins};
-ghost use Rattle.program_follower.specs.Following.{IsMoreOf, StartsSince, grown, high_of, IsStartPlace, IsOfStartsAt, IsOnTables, streams_of_program};
+ghost use Rattle.program_follower.specs.Following.{IsPartOf, StartsSince, grown, high_of, IsStartPlace, IsOfStartsAt, IsOnTables, streams_of_program};
 
 use crate::follower::of_unit;
 use crate::known::KnownProgram;
 use crate::pid_uses::{PidUse, PidUses};
 use crate::purpose::Purpose;
-use crate::starts::{StartPacket, Starts, UnitStart, goes_on};
+use crate::starts::{StartPacket, Starts, StreamPart, UnitStart, is_clear};
 use crate::table_reader::{OnTables, TableReader, or_zero};
 use crate::tables::Tables;
 use arrayvec::ArrayVec;
@@ -101,6 +101,15 @@ impl StartFollower {
         }
     }
 
+    /// Begins anew: it was fed no packet, as [`StartFollower::new`] was not, and stays where it lies.
+    pub fn begin_anew(&mut self, purpose: Purpose)
+        ensures { StartsStandFor self.new purpose [] }
+    {
+        self.uses.begin_anew(or_zero(purpose.cue_pid));
+        self.streams = None;
+        self.tables = TableReader::new(purpose);
+    }
+
     /// Takes the next packet of the network, and answers what it is.
     ///
     /// # Errors
@@ -124,38 +133,55 @@ impl StartFollower {
         }
     }
 
-    /// The number of the switched stream in which the next packet of the network goes on with what came before it, in the order of the map: it is
-    /// neither marked in error nor scrambled, and has a payload and no start bit. `None` where it is no such packet. It is not taken.
+    /// What the next packet of the network is to the switched stream that it is of, where it has a payload and nothing is wrong with it: it is
+    /// neither marked in error nor scrambled, and a unit that begins with it is at no fault. `None` where it is no such packet. It is not taken.
     #[inline(always)]
-    pub fn goes_on(&self, packet: &Packet) -> Option<usize>
-        ensures below { IfSome result (λ stream. stream < 8) }
-        ensures goes_on { OfStartPast self.now (λ c past. IfSome result (λ stream. IsMoreOf c stream packet.now past)) }
-        ensures told { OfStartPast self.now (λ c past. (stream : ℕ) → IsMoreOf c stream packet.now past → result ≡ Some stream) }
+    pub fn goes_on(&self, packet: &Packet) -> Option<StreamPart>
+        ensures below { IfSome result (λ of. of.stream < 8) }
+        ensures goes_on { OfStartPast self.now (λ c past. IfSome result (λ of. IsPartOf c of packet.now past)) }
+        ensures told { OfStartPast self.now (λ c past. (of : StreamPart) → IsPartOf c of packet.now past → result ≡ Some of) }
     {
         let index = match self.uses.use_of(packet) {
             PidUse::Stream(index) => index,
             PidUse::Table => return None,
             PidUse::Other => return None,
         };
-        let Some(_streams) = &self.streams else {
+        let Some(streams) = &self.streams else {
             return None;
         };
-        if packet.error() || !goes_on(packet) {
+        if packet.error() || !is_clear(packet) {
             return None;
         }
-        Some(index)
+        match streams.part_of(index, packet) {
+            Some(part) => Some(StreamPart {
+                stream: index,
+                part,
+            }),
+            None => None,
+        }
     }
 
-    /// Takes the next packet of the network, which goes on in the stream of this number.
+    /// Takes the next packet of the network, which is this to its stream.
     #[inline(always)]
-    pub fn go_on(&mut self, stream: usize, packet: &Packet)
-        requires { stream < 8 }
-        ensures stands { OfStartPast self.old (λ c past. IsMoreOf c stream packet.now past → StartsStandFor self.new c (packet.now ∷ past)) }
-        ensures shows { OfStartPast self.old (λ c past. IsMoreOf c stream packet.now past → StartsShow self.new c (packet.now ∷ past)) }
+    pub fn go_on(&mut self, of: StreamPart, packet: &Packet)
+        requires { of.stream < 8 }
+        ensures stands { OfStartPast self.old (λ c past. IsPartOf c of packet.now past → StartsStandFor self.new c (packet.now ∷ past)) }
+        ensures shows { OfStartPast self.old (λ c past. IsPartOf c of packet.now past → StartsShow self.new c (packet.now ∷ past)) }
     {
         self.tables.pass();
         if let Some(streams) = &mut self.streams {
-            streams.go_on(stream, packet);
+            streams.go_on(of, packet);
+        }
+    }
+
+    /// The greatest time behind the next packet of the network, which is this to its stream. It is not taken.
+    pub fn high_behind(&self, of: StreamPart) -> Option<Time33>
+        ensures { OfStartPast self.now (λ c past. (p : List ℕ) → IsPartOf c of p past
+            → result ≡ option_map ring_of (high_of c.program (p ∷ past))) }
+    {
+        match &self.streams {
+            None => None,
+            Some(streams) => streams.high_behind(of),
         }
     }
 

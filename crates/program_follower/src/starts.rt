@@ -1,7 +1,7 @@
 //! Where the units of the switched streams begin behind the head, and the greatest time of these.
 
 ghost use Rattle.std.specs.Prelude.{◌≡◌, ◌<◌, ◌≤◌, ◌≢◌, ◌∷◌, [], ℕ, List, length, Option, Some, None, option_map};
-ghost use Rattle.std.specs.Prelude.{OnOk, IfOk, IfErr, IfSome, slice_index_or, true};
+ghost use Rattle.std.specs.Prelude.{OnOk, IfOk, IfErr, IfSome, is_some, is_none, slice_index_or, true};
 ghost use Rattle.ts_packet.specs.Fields.{payload_on};
 ghost use Rattle.pes_time.specs.Line.{ring_of};
 ghost use Rattle.unit_stream.specs.Faults.{unit_fault};
@@ -10,7 +10,7 @@ ghost use Rattle.unit_stream.specs.Starts.{ReadsStarts, IsBegin};
 ghost use Rattle.unit_stream.specs.Clocks.{ClockAt};
 ghost use Rattle.program_follower.specs.Faults.{pids_in};
 ghost use Rattle.program_follower.specs.Streaming.{AllStartsRead, StartsRead, IsOne, begin_fault};
-ghost use Rattle.program_follower.specs.Streaming.{is_more, place_in, IsStartPacket, IsOfStarts, start_in};
+ghost use Rattle.program_follower.specs.Streaming.{is_clear, place_in, IsStartPacket, IsOfStarts, start_in};
 ghost use Rattle.pes_time.specs.Stamps.{stamp_of};
 
 use crate::places::StreamPlaces;
@@ -44,6 +44,15 @@ impl StartPacket {
     }
 }
 
+/// What a packet of a switched stream is there.
+#[derive(Clone, Copy, Debug, PartialEq, Eq)]
+pub struct StreamPart {
+    /// The number of the stream in the order of the map, counted from 0.
+    pub stream: usize,
+    /// What the packet is to it.
+    pub part: StartPacket,
+}
+
 /// A unit that begins with a packet.
 #[derive(Clone, Copy, Debug, PartialEq, Eq)]
 pub struct UnitStart {
@@ -54,9 +63,9 @@ pub struct UnitStart {
 /// Follows up to eight switched streams, and tells of their packets only which begin units.
 #[derive(Drop)]
 pub struct Starts {
-    readers: [StartReader; 8],
-    clock: Clock,
     places: StreamPlaces,
+    clock: Clock,
+    readers: [StartReader; 8],
 }
 
 impl Starts {
@@ -107,14 +116,67 @@ impl Starts {
         }
     }
 
-    /// Takes the next packet behind the head, which is of the stream of this number and goes on with what came before.
+    /// Takes the next packet behind the head, which has a payload, not scrambled, and is this to its stream.
     #[inline(always)]
-    pub(crate) fn go_on(&mut self, index: usize, packet: &Packet)
-        requires { index < 8 }
-        ensures { (pids : List ℕ) (past : List (List ℕ)) → Some index ≡ place_in pids packet.now → is_more packet.now ≡ true
-            → StartsRead self.old pids past → StartsRead self.new pids (packet.now ∷ past) }
+    pub(crate) fn go_on(&mut self, of: StreamPart, packet: &Packet)
+        requires { of.stream < 8 }
+        ensures { (pids : List ℕ) (past : List (List ℕ)) → IsOfStarts (Some (of.stream, of.part)) pids packet.now past
+            → is_clear packet.now ≡ true → StartsRead self.old pids past → StartsRead self.new pids (packet.now ∷ past) }
     {
-        let _none = feed_at(&mut self.readers, index, packet);
+        let _begun = feed_at(&mut self.readers, of.stream, packet);
+        if of.part.is_start() {
+            self.clock = passed(self.clock, of.part);
+        }
+    }
+
+    /// The greatest time behind the next packet behind the head, which is this to its stream. It is not taken.
+    pub(crate) fn high_behind(&self, of: StreamPart) -> Option<Time33>
+        ensures { (pids : List ℕ) (p : List ℕ) (past : List (List ℕ)) → IsOfStarts (Some (of.stream, of.part)) pids p past
+            → StartsRead self.now pids past → result ≡ option_map ring_of (high pids (p ∷ past)) }
+    {
+        passed(self.clock, of.part).high()
+    }
+
+    /// What the next packet behind the head, which is of the stream of this number and has a payload, not scrambled, is there; `None` where
+    /// something is wrong with it. It is not taken.
+    #[inline(always)]
+    pub(crate) fn part_of(&self, index: usize, packet: &Packet) -> Option<StartPacket>
+        requires { index < 8 }
+        ensures is { (pids : List ℕ) (past : List (List ℕ)) → Some index ≡ place_in pids packet.now → is_clear packet.now ≡ true
+            → StartsRead self.now pids past → IfSome result (λ part. IsOfStarts (Some (index, part)) pids packet.now past) }
+        ensures told { (pids : List ℕ) (past : List (List ℕ)) → Some index ≡ place_in pids packet.now → is_clear packet.now ≡ true
+            → StartsRead self.now pids past → is_some result ≡ is_none (unit_fault pids packet.now past) }
+    {
+        if !packet.unit_start() {
+            return Some(StartPacket::NoStart);
+        }
+        match self.part_at(index, packet) {
+            Ok(part) => Some(part),
+            Err(_) => None,
+        }
+    }
+
+    /// What the next packet behind the head, which is of the stream of this number and has a payload, not scrambled, is there. It is not taken. It
+    /// stands by itself, as it reads the stamps of a unit.
+    ///
+    /// # Errors
+    ///
+    /// `HeaderSplit` or `TimeJump`, as for [`Starts::feed`].
+    #[inline(never)]
+    fn part_at(&self, index: usize, packet: &Packet) -> Result<StartPacket, UnitFault>
+        requires { index < 8 }
+        ensures ok { (pids : List ℕ) (past : List (List ℕ)) → Some index ≡ place_in pids packet.now → is_clear packet.now ≡ true
+            → StartsRead self.now pids past → OnOk result (unit_fault pids packet.now past ≡ None) }
+        ensures is { (pids : List ℕ) (past : List (List ℕ)) → Some index ≡ place_in pids packet.now → is_clear packet.now ≡ true
+            → StartsRead self.now pids past → IfOk result (λ part. IsOfStarts (Some (index, part)) pids packet.now past) }
+        ensures err { (pids : List ℕ) (past : List (List ℕ)) → Some index ≡ place_in pids packet.now → is_clear packet.now ≡ true
+            → StartsRead self.now pids past → IfErr result (λ f. unit_fault pids packet.now past ≡ Some f) }
+    {
+        let mut clock = self.clock;
+        match pass(&mut clock, self.readers[index].look(packet)) {
+            Ok(part) => Ok(part),
+            Err(fault) => Err(fault),
+        }
     }
 
     /// Takes the next packet behind the head, which is of the stream of this number, and answers what it is there.
@@ -189,8 +251,7 @@ impl Starts {
         if !packet.unit_start() {
             return None;
         }
-        let mut clock = self.clock;
-        match pass(&mut clock, self.readers[index].look(packet)) {
+        match self.part_at(index, packet) {
             Ok(_) => None,
             Err(fault) => Some(fault),
         }
@@ -225,12 +286,26 @@ fn stamp_in(payload: &[u8]) -> Option<Time33>
     }
 }
 
-/// The packet goes on with what came before it in its stream: it has a payload, not scrambled, and no start bit.
+/// The packet has a payload, which is not scrambled.
 #[inline(always)]
-pub(crate) fn goes_on(packet: &Packet) -> bool
-    ensures { result ≡ is_more packet.now }
+pub(crate) fn is_clear(packet: &Packet) -> bool
+    ensures { result ≡ is_clear packet.now }
 {
-    !packet.unit_start() && !packet.scrambled() && packet.has_payload()
+    !packet.scrambled() && packet.has_payload()
+}
+
+/// The clock behind a packet that is this to its stream. It stands by itself, as few packets begin units.
+#[tactic(auto, using(crate::proofs::PieceLemmas::high_start, crate::proofs::PieceLemmas::high_other))]
+#[inline(never)]
+fn passed(clock: Clock, part: StartPacket) -> Clock
+    ensures { (pids : List ℕ) (pid : ℕ) (p : List ℕ) (past : List (List ℕ)) → IsOne pids pid p past
+        → IsStartPacket part pids pid p past → ClockAt clock (high pids past) → ClockAt result (high pids (p ∷ past)) }
+{
+    let mut behind = clock;
+    if let StartPacket::Start(begun) = part {
+        behind.pass(begun);
+    }
+    behind
 }
 
 /// What a packet of a stream is, by the payload with which it begins a unit, if it begins one. The clock passes the begin.

@@ -1,6 +1,6 @@
 //! The greatest time of the units that have begun, on the ring of 33-bit stamps.
 
-ghost use Rattle.std.specs.Prelude.{◌≡◌, ℤ, pos, negsuc, ◌≤ℤ◌, Option, Some, None, true, false, IfOk, OnOk, IfErr};
+ghost use Rattle.std.specs.Prelude.{◌≡◌, ℕ, ℤ, pos, negsuc, ◌≤ℤ◌, Option, Some, None, true, false, IfOk, OnOk, IfErr};
 ghost use Rattle.pes_time.specs.Stamps.{stamp_of};
 ghost use Rattle.unit_stream.specs.Faults.{payload_fault, jumps, is_far};
 ghost use Rattle.unit_stream.specs.Times.{raised};
@@ -72,6 +72,37 @@ impl Clock {
                 None => Ok(None),
                 Some(pts) => self.advance(pts),
             },
+        }
+    }
+
+    /// What [`Clock::begin`] would answer to this payload. The clock stays as it is.
+    ///
+    /// # Errors
+    ///
+    /// As for [`Clock::begin`].
+    pub fn look(&self, payload: &[u8]) -> Result<Option<Begun>, UnitFault>
+        ensures sound { (high : Option ℤ) → ClockAt self.now high
+            → OnOk result (payload_fault high payload.now ≡ None) }
+        ensures tells { (high : Option ℤ) → ClockAt self.now high
+            → IfOk result (λ begun. Tells begun high (stamp_of payload.now)) }
+        ensures err { (high : Option ℤ) → ClockAt self.now high
+            → IfErr result (λ f. payload_fault high payload.now ≡ Some f) }
+    {
+        let mut clock = *self;
+        clock.begin(payload)
+    }
+
+    /// Passes the begin of a unit of which it has told this.
+    #[inline(always)]
+    pub fn pass(&mut self, begun: Option<Begun>)
+        ensures { (high : Option ℤ) (stamp : Option ℕ) → ClockAt self.old high → Tells begun high stamp
+            → ClockAt self.new (raised high stamp) }
+    {
+        let Some(begun) = begun else {
+            return;
+        };
+        if begun.way > 0 || self.high.is_none() {
+            self.high = Some(begun.pts);
         }
     }
 

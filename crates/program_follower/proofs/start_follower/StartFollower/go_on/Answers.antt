@@ -11,6 +11,6 @@ returns-in-Some-clause-stands c = λ k past h g.
     record {
       tables = c.pass.ensures.reads k p past g.elsewhere h.tables;
       streams = streams_fed k p past g.elsewhere c.in-Some.streams c.go_on.new.self (subst (λ s. Since StartsRead s (program_of k.program past) (behind_head k.program past)) c.in-Some.is h.streams)
-          (λ r. c.go_on.ensures (pids_of (program_of k.program past)) (behind_head k.program past) g.here g.more r);
+          (λ r. c.go_on.ensures (pids_of (program_of k.program past)) (behind_head k.program past) g.place g.clear r);
       uses = uses_passed c.args.self.now.uses k p past h.uses g.elsewhere;
     }

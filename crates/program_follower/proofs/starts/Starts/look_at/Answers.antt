@@ -5,7 +5,8 @@ use Rattle.ts_packet.specs.Duplicates.{original}
 use Rattle.unit_stream.specs.Times.{high, splits, stamp}
 use Rattle.unit_stream.specs.Faults.{start_fault}
 use Rattle.program_follower.specs.Streaming.{first_on, begin_fault}
-use Rattle.program_follower.proofs.StreamLemmas.{first_is_on, no_payload_fault, is_one, fault_scrambled, fault_begin, payload_of}
+use Rattle.program_follower.proofs.StreamLemmas.{first_is_on, no_payload_fault, fault_scrambled, fault_begin, payload_of}
+use Rattle.program_follower.proofs.GoOnLemmas.{clear-of}
 use Rattle.program_follower.proofs.PlaceLemmas.{placed}
 use Rattle.program_follower.proofs.starts.Starts.look_at.Goals as goal
 
@@ -41,22 +42,8 @@ returns-then-not-unit_start c = λ ps past at h.
 
 pub returns-in-Ok : goal.returns-in-Ok
 returns-in-Ok c = λ ps past at h.
-    let p = c.args.packet.now in
-    let of = placed ps p c.args.index at in
-    let x : ℕ × ℕ = (c.args.index, of.0) in
-    let e : first_on ps p ≡ Some x = of.1 in
-    let y = payload_of x.1 p (first_is_on ps p x e) ∙ sym c.has_payload.ensures ∙ c.if-not-has_payload.false in
-    let begins = c.look.ensures x.1 past (h.readers p x c.index-self-index.result e) y in
-    let n : payload_on x.1 p && scrambled p ≡ false = ap (λ b. b && scrambled p) y ∙ sym c.scrambled.ensures ∙ c.if-scrambled.false in
-    sym (fault_begin ps p past x e None n (c.in-Ok.ensures.sound ps x.1 p past (is_one ps p past x e) h.clock begins))
+    sym (c.in-Ok.ensures.ok ps past at (clear-of c.args.packet.now (sym c.scrambled.ensures ∙ c.if-scrambled.false) (sym c.has_payload.ensures ∙ c.if-not-has_payload.false)) h)
 
 pub returns-in-Err : goal.returns-in-Err
 returns-in-Err c = λ ps past at h.
-    let p = c.args.packet.now in
-    let of = placed ps p c.args.index at in
-    let x : ℕ × ℕ = (c.args.index, of.0) in
-    let e : first_on ps p ≡ Some x = of.1 in
-    let y = payload_of x.1 p (first_is_on ps p x e) ∙ sym c.has_payload.ensures ∙ c.if-not-has_payload.false in
-    let begins = c.look.ensures x.1 past (h.readers p x c.index-self-index.result e) y in
-    let n : payload_on x.1 p && scrambled p ≡ false = ap (λ b. b && scrambled p) y ∙ sym c.scrambled.ensures ∙ c.if-scrambled.false in
-    sym (fault_begin ps p past x e (Some c.in-Err.fault) n (c.in-Err.ensures.err ps x.1 p past (is_one ps p past x e) h.clock begins))
+    sym (c.in-Err.ensures.err ps past at (clear-of c.args.packet.now (sym c.scrambled.ensures ∙ c.if-scrambled.false) (sym c.has_payload.ensures ∙ c.if-not-has_payload.false)) h)
