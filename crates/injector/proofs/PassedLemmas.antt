@@ -1,6 +1,6 @@
 -- A packet before which no cue can be due, and one on whose PID nothing of the program is.
 use Rattle.std.proofs.Common.{◌≡◌, ℕ, List, [], ◌∷◌, ◌++◌, false, refl, sym, ap, subst, ◌∙◌}
-use Rattle.std.specs.Prelude.{None, Some, option_map, filter, is_some, true}
+use Rattle.std.specs.Prelude.{None, Some, map, option_map, filter, is_some, true}
 use Rattle.pes_time.specs.Line.{ring_of}
 use Rattle.ts_packet.specs.Fields.{pid_of}
 use Rattle.ts_packet.specs.Runs.{onto}
@@ -12,18 +12,21 @@ use Rattle.program_follower.specs.Program.{listed}
 use Rattle.program_follower.specs.Purposes.{writing_cues}
 use Rattle.program_follower.specs.Faults.{network_fault}
 use Rattle.program_follower.specs.declared.start_follower.StartFollower.{StartFollower}
-use Rattle.program_follower.specs.Following.{high_of, IsMoreOf, IsElsewhere, IsUnfollowed, StartsStandFor}
+use Rattle.program_follower.specs.Following.{high_of, IsElsewhere, IsUnfollowed, StartsStandFor}
+use Rattle.program_follower.specs.declared.starts.StreamPart.{StreamPart}
 use Rattle.program_follower.proofs.UnfollowedLemmas.{unfollowed-elsewhere, stands-past, clean-past, high-past}
 use Rattle.program_laws.specs.Writing.{packets_out}
+use Rattle.outgoing_packets.specs.declared.outgoing.Outgoing.{Outgoing}
+use Rattle.scte35_codec.specs.Spelling.{cue_bytes}
 use Rattle.outgoing_packets.proofs.NumberLemmas.{number-others}
 use Rattle.outgoing_packets.proofs.GoOnLemmas.{go-on-past, go-on-later}
 use Rattle.injector.specs.declared.injector.Injector.{Injector}
 use Rattle.injector.specs.Turns.{greatest_in, events}
 use Rattle.injector.specs.Noting.{IsBefore, NotesStandFor}
 use Rattle.injector.specs.Steps.{Step, Packet, packets_in, turns_in, has_news, cued, cue_packets, body_at, sent_at}
-use Rattle.injector.specs.Injecting.{IsStill, JudgesBy, RestsAt, InjectorStandsFor, GoesOnAlone}
+use Rattle.injector.specs.Injecting.{IsStill, JudgesBy, RestsAt, CuesGoOn, InjectorStandsFor, GoesOnAlone}
 use Rattle.injector.proofs.FeedLemmas.{rises-at, turns-high, body-off}
-use Rattle.injector.proofs.RestLemmas.{idle-between, idle-told, no-cue-between}
+use Rattle.injector.proofs.RestLemmas.{idle-between, idle-cues, idle-told, no-cue-between}
 use Rattle.injector.proofs.BoundLemmas.{stays-still}
 use Rattle.injector.proofs.SenderLemmas.{standing-stays, restate-notes}
 use Rattle.injector.proofs.GoOnLemmas.{body-by}
@@ -80,8 +83,22 @@ pub record IsPlain (c : Config) (p : List ℕ) (net : List (List ℕ)) : Type 0 
   pub sound : network_fault (writing_cues c) p net ≡ None
   pub high : high_of (Some c.program) (p ∷ net) ≡ high_of (Some c.program) net
 
-plain-of : (c : Config) (stream : ℕ) (p : List ℕ) (net : List (List ℕ)) → IsMoreOf (writing_cues c) stream p net → IsPlain c p net
-plain-of c stream p net g = record { listed = g.listed; elsewhere = g.elsewhere; sound = g.sound; high = g.high }
+module _ (c : Config) (p : List ℕ) (past : List Step) (known : is_some (listed (Some c.program) (packets_in past)) ≡ true)
+    (elsewhere : IsElsewhere (writing_cues c) p (packets_in past)) (sent : sent_at c p past ≡ p ∷ []) where
+  -- the counters go on behind a packet that goes out alone
+  pub out-past : (o : Outgoing) → CuesGoOn o c.cue_pid (listed (Some c.program) (packets_in past)) (cued c past)
+      → CuesGoOn o c.cue_pid (listed (Some c.program) (p ∷ packets_in past)) (cued c (Packet p ∷ past))
+  out-past o h =
+      let net = packets_in past in
+      let out : cued c (Packet p ∷ past) ≡ p ∷ cued c past = ap (onto (cued c past)) sent in
+      let l = listed (Some c.program) net in
+      record {
+        passed = h.passed;
+        put = h.put;
+        cues = h.cues ∙ sym (ap (λ qs. Rattle.program_laws.specs.Writing.number_on c.cue_pid qs) out ∙ number-others c.cue_pid (p ∷ []) (cued c past) (elsewhere.cue, tt));
+        go_on = subst (λ qs. Rattle.outgoing_packets.specs.Numbers.GoOnAs (listed (Some c.program) (p ∷ net)) h.passed qs) (sym out)
+            (go-on-later (Some c.program) p net h.passed (p ∷ cued c past) (go-on-past l p h.passed (cued c past) known elsewhere.map h.go_on));
+      }
 
 module _ (i : Injector) (f : StartFollower) (c : Config) (p : List ℕ) (past : List Step) (h : InjectorStandsFor i c past)
     (quiet : has_news c.index (turns_in c.program past) ≡ false) (u : IsPlain c p (packets_in past)) where
@@ -92,10 +109,7 @@ module _ (i : Injector) (f : StartFollower) (c : Config) (p : List ℕ) (past : 
   -- and the injector whose follower stands for the network with it stands for the history with it
   pub plain-past : StartsStandFor f (writing_cues c) (p ∷ packets_in past) → InjectorStandsFor (record i { follower = f }) c (Packet p ∷ past)
   plain-past follows =
-      let net = packets_in past in
       let n = quiet-behind i c p past h.judges h.notes h.news h.rest (h.news ∙ quiet) u.sound u.high in
-      let out : cued c (Packet p ∷ past) ≡ p ∷ cued c past = ap (onto (cued c past)) plain-sent in
-      let l = listed (Some c.program) net in
       record {
         judges = record { requests = n.judges.requests; counted = n.judges.counted };
         cue_pid = h.cue_pid;
@@ -103,25 +117,26 @@ module _ (i : Injector) (f : StartFollower) (c : Config) (p : List ℕ) (past : 
         news = h.news ∙ quiet;
         rest = λ still. n.rest;
         follower = follows;
-        out = record {
-          passed = h.out.passed;
-          put = h.out.put;
-          cues = h.out.cues ∙ sym (ap (λ qs. Rattle.program_laws.specs.Writing.number_on c.cue_pid qs) out ∙ number-others c.cue_pid (p ∷ []) (cued c past) (u.elsewhere.cue, tt));
-          go_on = subst (λ qs. Rattle.outgoing_packets.specs.Numbers.GoOnAs (listed (Some c.program) (p ∷ net)) h.out.passed qs) (sym out)
-              (go-on-later (Some c.program) p net h.out.passed (p ∷ cued c past) (go-on-past l p h.out.passed (cued c past) u.listed u.elsewhere.map h.out.go_on));
-        };
+        out = out-past c p past u.listed u.elsewhere plain-sent i.out h.out;
         whole = h.whole;
       }
 
--- ---- it goes on in a switched stream
+-- ---- it is of a switched stream
 
-module _ (i : Injector) (c : Config) (stream : ℕ) (p : List ℕ) (past : List Step) (h : InjectorStandsFor i c past) (g : GoesOnAlone c stream p past) where
+module _ (c : Config) (x : StreamPart) (p : List ℕ) (past : List Step) (g : GoesOnAlone c x p past) where
   -- THE PACKET goes out alone
   pub goes-on-sent : sent_at c p past ≡ p ∷ []
-  goes-on-sent = plain-sent i i.follower c p past h g.quiet (plain-of c stream p (packets_in past) g.goes_on)
+  goes-on-sent =
+      ap (λ l. l ++ body_at c p (packets_in past) (onto (cued c past) l))
+      (ap (λ cues. packets_out c.cue_pid (cued c past) (map cue_bytes cues)) (idle-cues c.index (high_of (Some c.program) (p ∷ packets_in past)) (turns_in c.program past) g.idle))
+      ∙ body-off c p (packets_in past) (cued c past) g.goes_on.elsewhere.map
 
+module _ (i : Injector) (c : Config) (x : StreamPart) (p : List ℕ) (past : List Step) (h : InjectorStandsFor i c past) (g : GoesOnAlone c x p past)
+    (high : high_of (Some c.program) (p ∷ packets_in past) ≡ high_of (Some c.program) (packets_in past)) where
+  -- the injector behind it
   pub goes-on-past : (f : StartFollower) → StartsStandFor f (writing_cues c) (p ∷ packets_in past) → InjectorStandsFor (record i { follower = f }) c (Packet p ∷ past)
-  goes-on-past f follows = plain-past i f c p past h g.quiet (plain-of c stream p (packets_in past) g.goes_on) follows
+  goes-on-past f follows =
+      plain-past i f c p past h g.quiet (record { listed = g.goes_on.listed; elsewhere = g.goes_on.elsewhere; sound = g.goes_on.sound; high = high }) follows
 
 -- ---- nothing of the program is on its PID
 

@@ -7,7 +7,8 @@ use Rattle.psi_tables.specs.declared.network.FeedFault.{FeedFault}
 use Rattle.psi_tables.specs.declared.network.FeedFault.TheVariants.{Network, Sink, Failed}
 use Rattle.psi_tables.specs.declared.network.NetworkFault.{NetworkFault}
 use Rattle.program_follower.specs.Program.{listed}
-use Rattle.program_follower.specs.Following.{IsMoreOf, StartsStandFor, StartsShow, on_map, high_of}
+use Rattle.program_follower.specs.Following.{IsPartOf, StartsStandFor, StartsShow, on_map, high_of}
+use Rattle.program_follower.specs.declared.starts.StreamPart.{StreamPart}
 use Rattle.program_follower.specs.Faults.{network_fault}
 use Rattle.outgoing_packets.specs.Numbers.{HasPut, GoOnAs, FrontFails}
 use Rattle.outgoing_packets.specs.declared.outgoing.Outgoing.{Outgoing}
@@ -16,7 +17,7 @@ use Rattle.program_follower.specs.declared.purpose.Listed.{Listed}
 use Rattle.injector.specs.declared.counts.MessageCounts.{MessageCounts}
 use Rattle.injector.specs.declared.injector.Injector.{Injector}
 use Rattle.injector.specs.Turns.{Turn, greatest_in}
-use Rattle.injector.specs.Senders.{standing_senders}
+use Rattle.injector.specs.Senders.{standing_senders, IsIdle}
 use Rattle.injector.specs.Requests.{RequestsStandFor}
 use Rattle.injector.specs.Noting.{NotesStandFor, Rests}
 use Rattle.injector.specs.Steps.{Step, packets_in, turns_in, cued, sent_at, has_news, judged_in}
@@ -70,10 +71,12 @@ network_answer (Err (Network fault)) = Some fault
 network_answer (Err (Sink fault)) = None
 network_answer (Err Failed) = None
 
--- a packet that goes on in this switched stream with what came before it, where no request was accepted since the last packet
-pub record GoesOnAlone (c : Config) (stream : ℕ) (p : List ℕ) (past : List Step) : Type 0 where
-  pub goes_on : IsMoreOf (writing_cues c) stream p (packets_in past)
+-- A packet that is this to its switched stream, with which nothing is wrong, where no request was accepted since the last packet and no cue is
+-- due before it: it goes out alone.
+pub record GoesOnAlone (c : Config) (x : StreamPart) (p : List ℕ) (past : List Step) : Type 0 where
+  pub goes_on : IsPartOf (writing_cues c) x p (packets_in past)
   pub quiet : has_news c.index (turns_in c.program past) ≡ false
+  pub idle : IsIdle c.index (high_of (Some c.program) (p ∷ packets_in past)) (turns_in c.program past)
 
 -- ---- within
 
@@ -99,6 +102,18 @@ pub record IsStill (i : Injector) (c : Config) (p : List ℕ) (past : List Step)
   pub followed : IsFollowed i false c p past
   pub quiet : i.has_news ≡ false
   pub high : high_of (Some c.program) (p ∷ packets_in past) ≡ high_of (Some c.program) (packets_in past)
+
+-- the follower alone has been given the packet, which goes out alone
+pub record HasGoneOn (i : Injector) (c : Config) (x : StreamPart) (p : List ℕ) (past : List Step) : Type 0 where
+  pub alone : GoesOnAlone c x p past
+  pub judges : JudgesBy i c past
+  pub cue_pid : i.cue_pid ≡ c.cue_pid
+  pub notes : NotesStandFor i.requests c.index (turns_in c.program past)
+  pub news : i.has_news ≡ has_news c.index (turns_in c.program past)
+  pub rest : i.has_news ≡ false → RestsAt i.rest c.index (turns_in c.program past)
+  pub follower : StartsStandFor i.follower (writing_cues c) (p ∷ packets_in past)
+  pub out : CuesGoOn i.out c.cue_pid (listed (Some c.program) (packets_in past)) (cued c past)
+  pub whole : i.is_spent ≡ false
 
 -- nothing changes but until when no cue is due, and that a request was accepted
 pub record KeepsAllButRest (old new : Injector) : Type 0 where

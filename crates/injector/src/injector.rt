@@ -17,7 +17,7 @@ ghost use Rattle.injector.specs.Senders.{IsIdle};
 ghost use Rattle.injector.specs.Noting.{NotesStandFor, StaysAtRest};
 ghost use Rattle.injector.specs.Steps.{Step, Message as MessageStep, Packet as PacketStep, packets_in, turns_in};
 ghost use Rattle.injector.specs.Steps.{body_at, sent_at, has_news};
-ghost use Rattle.injector.specs.Injecting.{InjectorStandsFor, JudgesBy, FeedFails, CountsAre, GoesOnAlone, network_answer};
+ghost use Rattle.injector.specs.Injecting.{InjectorStandsFor, JudgesBy, FeedFails, CountsAre, GoesOnAlone, HasGoneOn, network_answer};
 ghost use Rattle.injector.specs.Injecting.{IsFollowed, IsStill, IsBodyOf, RestsAt, KeepsRest, KeepsAllButRest};
 ghost use Rattle.outgoing_packets.specs.Faults.{FeedBlamed, KeepsSink, is_err_or};
 ghost use Rattle.program_follower.specs.Purposes.{writing_cues};
@@ -25,7 +25,7 @@ ghost use Rattle.event_table.specs.Events.{open_count_of};
 ghost use Rattle.event_table.specs.Tables.{high_time_of, events_of};
 ghost use Rattle.program_follower.specs.Streaming.{place_in, start_in};
 ghost use Rattle.program_follower.specs.Program.{listed, known_pids, program_of, pids_of, behind_head};
-ghost use Rattle.program_follower.specs.Following.{high_of, on_map, IsStartPlace, IsUnfollowed};
+ghost use Rattle.program_follower.specs.Following.{high_of, on_map, IsPartOf, IsStartPlace, IsUnfollowed};
 
 use crate::choice::is_reached;
 use crate::counts::{MessageCounts, counted, has_news_behind};
@@ -35,7 +35,7 @@ use arrayvec::ArrayVec;
 use event_table::Event;
 use outgoing_packets::{CueEntry, Outgoing};
 use pes_time::Time33;
-use program_follower::{Purpose, StartFollower, StartPlace, UnitStart};
+use program_follower::{Purpose, StartFollower, StartPacket, StartPlace, StreamPart, UnitStart};
 use psi_tables::{Config, FeedFault, NetworkFault};
 use scte104_codec::{BadMessage, Message, Reply};
 use ts_packet::{Packet, PacketSink, Pid, PutFault};
@@ -43,16 +43,16 @@ use ts_packet::{Packet, PacketSink, Pid, PutFault};
 /// Judges the messages of an automation, and puts the cues of the breaks that it asks for into a network. It takes no memory.
 #[derive(Drop)]
 pub struct Injector {
-    /// A request was accepted since the last packet.
-    has_news: bool,
-    is_spent: bool,
     cue_pid: Pid,
-    /// The time before which no cue is repeated; `None` where none is, unless a request comes.
-    rest: Option<Time33>,
-    counts: MessageCounts,
     requests: Requests,
     follower: StartFollower,
     out: Outgoing,
+    counts: MessageCounts,
+    /// A request was accepted since the last packet.
+    has_news: bool,
+    /// The time before which no cue is repeated; `None` where none is, unless a request comes.
+    rest: Option<Time33>,
+    is_spent: bool,
 }
 
 impl Injector {
@@ -75,6 +75,25 @@ impl Injector {
             rest: None,
             is_spent: false,
         }
+    }
+
+    /// Begins anew for this: it was given no message and no packet, as [`Injector::new`] was not, and stays where it lies.
+    #[tactic(auto, using(crate::proofs::BoundLemmas::rests_none))]
+    pub fn begin_anew(&mut self, config: Config)
+        ensures { InjectorStandsFor self.new config [] }
+    {
+        self.cue_pid = config.cue_pid;
+        self.requests = Requests::new(config.index);
+        self.follower.begin_anew(Purpose::writing_cues(&config));
+        self.out.begin_anew();
+        self.counts = MessageCounts {
+            messages: 0,
+            accepted: 0,
+            refused: 0,
+        };
+        self.has_news = false;
+        self.rest = None;
+        self.is_spent = false;
     }
 
     /// Judges a message by the packets so far, and answers it; also after a fault of [`Injector::feed`].
@@ -157,34 +176,72 @@ impl Injector {
         !self.has_news && self.overlooks_pid(packet.pid())
     }
 
-    /// The number of the switched stream in which the next packet of the network goes on with what came before it, where no request was accepted
-    /// since the last packet: it goes out alone, as it came. `None` where it is no such packet. It is not taken.
+    /// What the next packet of the network is to its switched stream, where nothing is wrong with it, no request was accepted since the last packet
+    /// and no cue is due before it: it goes out alone, as it came. `None` where it is no such packet, or where it begins a unit and a cue may be
+    /// due. It is not taken.
     #[inline(always)]
-    pub fn goes_on(&self, packet: &Packet) -> Option<usize>
-        ensures below { IfSome result (λ stream. stream < 8) }
+    pub fn goes_on(&self, packet: &Packet) -> Option<StreamPart>
+        ensures below { IfSome result (λ of. of.stream < 8) }
         ensures alone { (c : Config) (past : List Step) → InjectorStandsFor self.now c past →
-            IfSome result (λ stream. GoesOnAlone c stream packet.now past) }
+            IfSome result (λ of. GoesOnAlone c of packet.now past) }
         ensures told { (c : Config) (past : List Step) → InjectorStandsFor self.now c past →
-            (stream : ℕ) → GoesOnAlone c stream packet.now past → result ≡ Some stream }
+            (of : StreamPart) → of.part ≡ StartPacket.NoStart → GoesOnAlone c of packet.now past → result ≡ Some of }
     {
         if self.is_spent || self.has_news {
             return None;
         }
-        match self.follower.goes_on(packet) {
-            Some(stream) => Some(stream),
-            None => None,
+        let Some(of) = self.follower.goes_on(packet) else {
+            return None;
+        };
+        let given = &of;
+        if self.may_be_due_behind(*given) {
+            return None;
+        }
+        Some(*given)
+    }
+
+    /// Whether a cue may be due before the next packet, which is this to its stream, where no request was accepted since the last packet: where a
+    /// unit begins with it and the greatest time comes to the time that is kept.
+    #[inline(always)]
+    fn may_be_due_behind(&self, of: StreamPart) -> bool
+        ensures idle { (c : Config) (p : List ℕ) (past : List Step) → InjectorStandsFor self.now c past →
+            has_news c.index (turns_in c.program past) ≡ false → IsPartOf (writing_cues c) of p (packets_in past) → result ≡ false →
+            IsIdle c.index (high_of (Some c.program) (p ∷ packets_in past)) (turns_in c.program past) }
+        ensures still { of.part ≡ StartPacket.NoStart → result ≡ false }
+    {
+        match of.part {
+            StartPacket::NoStart => false,
+            StartPacket::Start(_) => is_reached(self.rest, self.follower.high_behind(of)),
         }
     }
 
-    /// Takes the next packet of the network, which goes on alone in the stream of this number. It is not put here.
+    /// Takes the next packet of the network, which is this to its stream and goes out alone. It is not put here.
     #[inline(always)]
-    pub fn go_on(&mut self, stream: usize, packet: &Packet)
-        requires { stream < 8 }
-        ensures stands { (c : Config) (past : List Step) → InjectorStandsFor self.old c past → GoesOnAlone c stream packet.now past →
+    pub fn go_on(&mut self, of: StreamPart, packet: &Packet)
+        requires { of.stream < 8 }
+        ensures stands { (c : Config) (past : List Step) → InjectorStandsFor self.old c past → GoesOnAlone c of packet.now past →
             InjectorStandsFor self.new c (PacketStep packet.now ∷ past) }
         ensures spent { self.new.is_spent ≡ self.old.is_spent }
     {
-        self.follower.go_on(stream, packet);
+        let given = &of;
+        self.follower.go_on(*given, packet);
+        if given.part.is_start() {
+            self.rise();
+        }
+    }
+
+    /// Takes the greatest time behind a packet that was followed and goes out alone.
+    #[inline(never)]
+    fn rise(&mut self)
+        ensures stands { (c : Config) (of : StreamPart) (p : List ℕ) (past : List Step) → HasGoneOn self.old c of p past →
+            InjectorStandsFor self.new c (PacketStep p ∷ past) }
+        ensures spent { self.new.is_spent ≡ self.old.is_spent }
+    {
+        let high = self.follower.high();
+        let later = &high;
+        let is_due = is_reached(self.rest, *later);
+        self.requests.rise(*later);
+        self.note_rest(is_due);
     }
 
     /// What is wrong with the next packet of the network, behind those before it. It is not taken, and nothing changes.

@@ -35,6 +35,13 @@ impl Outgoing {
         }
     }
 
+    /// Begins anew: nothing has gone out, as of [`Outgoing::new`].
+    pub fn begin_anew(&mut self)
+        ensures { HasPut self.new [] }
+    {
+        self.upcoming = [0; 8192];
+    }
+
     /// Puts the packet as it is.
     ///
     /// # Errors

@@ -29,8 +29,8 @@ use ts_packet::{Packet, PacketSink, PutFault};
 /// The events that stand, with their plans, the streams, and what became of the events that are forgotten.
 #[derive(Drop)]
 pub struct Playing {
-    streams: [SwitchedStream; 8],
     events: ArmedEvents<Plan>,
+    streams: [SwitchedStream; 8],
     /// Of each stream the unit that is left out of it, where one is.
     leaving: [LeavingUnit; 8],
     forgotten: SwitchReport,

@@ -12,7 +12,8 @@ use Rattle.program_follower.specs.declared.purpose.Listed.{Listed}
 use Rattle.program_follower.specs.declared.purpose.Purpose.{Purpose}
 use Rattle.program_follower.specs.Purposes.{reading_cues}
 use Rattle.program_follower.specs.Program.{listed}
-use Rattle.program_follower.specs.Following.{IsMoreOf, StartsStandFor, StartsShow, IsStartPlace}
+use Rattle.program_follower.specs.declared.starts.StreamPart.{StreamPart}
+use Rattle.program_follower.specs.Following.{IsPartOf, StartsStandFor, StartsShow, IsStartPlace}
 use Rattle.program_follower.specs.Faults.{network_fault, first_fault}
 use Rattle.outgoing_packets.specs.Numbers.{HasPut, GoOnAs, FrontFails}
 use Rattle.ad_library.specs.Advertisements.{Advertisement}
@@ -71,10 +72,10 @@ FinishFails (Network fault) c filed past fails = ⊥
 FinishFails (Sink fault) c filed past fails = FrontFails (rest_at (setting_of c filed) past) (λ put q. fails put q fault)
 FinishFails Failed c filed past fails = ⊥
 
--- the next packet goes on in the stream of this number, and was not taken yet
-pub record GoesOnAt (s : Switch) (stream : ℕ) (c : Config) (filed : ℕ → Option Advertisement) (p : List ℕ) (x : Journey) : Type 0 where
+-- the next packet is this to its stream, and was not taken yet
+pub record GoesOnAt (s : Switch) (of : StreamPart) (c : Config) (filed : ℕ → Option Advertisement) (p : List ℕ) (x : Journey) : Type 0 where
   pub stands : SwitchStandsAt s c filed x
-  pub more : IsMoreOf (reading_cues c) stream p x.read
+  pub part : IsPartOf (reading_cues c) of p x.read
 
 -- the follower has been given the packet, which is of this place, and nothing was put yet
 pub record IsFollowedAs (s : Switch) (place : StartPlace) (c : Config) (filed : ℕ → Option Advertisement)

@@ -40,9 +40,9 @@ use ts_packet::{Packet, PacketSink, Pid, PutFault};
 pub struct Switch {
     cue_pid: Pid,
     follower: StartFollower,
+    playing: Playing,
     out: Outgoing,
     is_spent: bool,
-    playing: Playing,
 }
 
 impl Switch {
@@ -57,6 +57,17 @@ impl Switch {
             out: Outgoing::new(),
             is_spent: false,
         }
+    }
+
+    /// Begins anew for this: it was given no packet, as [`Switch::new`] was not, and stays where it lies.
+    pub fn begin_anew(&mut self, config: Config)
+        ensures { (filed : ℕ → Option Advertisement) → SwitchStandsFor self.new config filed [] }
+    {
+        self.cue_pid = config.cue_pid;
+        self.follower.begin_anew(Purpose::reading_cues(&config));
+        self.playing = Playing::new();
+        self.out.begin_anew();
+        self.is_spent = false;
     }
 
     /// Forgets that what was due of the advertisements that run is out: it was due by the library of that call, and another may make more due

@@ -4,7 +4,7 @@ ghost use Rattle.std.specs.Prelude.{◌≡◌, ◌<◌, ◌∷◌, ◌++◌, ℕ
 ghost use Rattle.ts_packet.specs.Sinks.{Blamed};
 ghost use Rattle.ts_packet.specs.Transfers.{WentWell};
 ghost use Rattle.program_follower.specs.Faults.{network_fault};
-ghost use Rattle.program_follower.specs.Following.{IsMoreOf};
+ghost use Rattle.program_follower.specs.Following.{IsPartOf};
 ghost use Rattle.program_follower.specs.Purposes.{reading_cues};
 ghost use Rattle.program_follower.specs.declared.purpose.Purpose.{Purpose as FollowedFor};
 ghost use Rattle.psi_tables.specs.declared.config.Config.{Config};
@@ -22,7 +22,7 @@ use super::Switch;
 use ad_library::AdLibrary;
 use outgoing_packets::CueEntry;
 use pes_time::Time33;
-use program_follower::{StartPacket, StartPlace};
+use program_follower::{StartPacket, StartPlace, StreamPart};
 use psi_tables::FeedFault;
 use ts_packet::{Packet, PacketSink, PutFault};
 
@@ -50,8 +50,8 @@ impl Switch {
         ensures kept { IfErr result (λ f. KeepsSink f sink.old sink.new) }
         ensures spent { self.new.is_spent ≡ self.old.is_spent }
     {
-        if let Some(stream) = self.follower.goes_on(packet) {
-            return match self.put_more(stream, packet, library, sink) {
+        if let Some(of) = self.follower.goes_on(packet) {
+            return match self.put_part(of, packet, library, sink) {
                 Ok(()) => Ok(()),
                 Err(fault) => Err(FeedFault::Sink(fault)),
             };
@@ -65,8 +65,7 @@ impl Switch {
         }
     }
 
-    /// Takes the next packet of the network as [`Switch::feed_with_same`] does, which goes on in the stream of this number: no unit of an
-    /// advertisement goes out before it.
+    /// Takes the next packet of the network as [`Switch::feed_with_same`] does, which is this to its stream.
     ///
     /// # Errors
     ///
@@ -74,33 +73,33 @@ impl Switch {
     #[inline(always)]
     pub fn go_on<S: PacketSink>(
         &mut self,
-        stream: usize,
+        of: StreamPart,
         packet: &Packet,
         library: &AdLibrary,
         sink: &mut S,
     ) -> Result<(), FeedFault>
-        requires { stream < 8 }
+        requires { of.stream < 8 }
         ensures leads { S.leads sink.old sink.new }
         ensures ok { (start : Option (List ℕ)) (ps : List (List ℕ)) (c : Config) (past : List (List ℕ)) → S.holds sink.old start ps →
-            SwitchStandsFor self.old c (held library.now) past → IsMoreOf (reading_cues c) stream packet.now past →
+            SwitchStandsFor self.old c (held library.now) past → IsPartOf (reading_cues c) of packet.now past →
             OnOk result (S.holds sink.new start (ps ++ switched_at_packet (setting_of c (held library.now)) packet.now past)) }
         ensures stands { (c : Config) (past : List (List ℕ)) → SwitchStandsFor self.old c (held library.now) past →
-            IsMoreOf (reading_cues c) stream packet.now past →
+            IsPartOf (reading_cues c) of packet.now past →
             OnOk result (SwitchStandsFor self.new c (held library.now) (packet.now ∷ past)) }
         ensures err { (start : Option (List ℕ)) (ps : List (List ℕ)) (c : Config) (past : List (List ℕ)) → S.holds sink.old start ps →
-            SwitchStandsFor self.old c (held library.now) past → IsMoreOf (reading_cues c) stream packet.now past →
+            SwitchStandsFor self.old c (held library.now) past → IsPartOf (reading_cues c) of packet.now past →
             IfErr result (λ f. FeedFails f c (held library.now) packet.now past (λ put q x. S.fails sink.new start (ps ++ put) q x)) }
         ensures puts { (start : Option (List ℕ)) (ps : List (List ℕ)) (c : Config) (x : Journey) → S.holds sink.old start ps →
-            SwitchStandsAt self.old c (held library.now) x → IsMoreOf (reading_cues c) stream packet.now x.read →
+            SwitchStandsAt self.old c (held library.now) x → IsPartOf (reading_cues c) of packet.now x.read →
             OnOk result (S.holds sink.new start (ps ++ puts_next (setting_of c (held library.now)) x packet.now)) }
         ensures goes_on { (c : Config) (x : Journey) → SwitchStandsAt self.old c (held library.now) x →
-            IsMoreOf (reading_cues c) stream packet.now x.read →
+            IsPartOf (reading_cues c) of packet.now x.read →
             ComesFurther self.new (held library.now) packet.now result c x }
         ensures well { OnOk result (WentWell (S.counts sink.old) (S.counts sink.new)) }
         ensures blamed { IfErr result (λ f. FeedBlamed f (S.counts sink.old) (S.counts sink.new) (S.is_full sink.new)) }
         ensures spent { self.new.is_spent ≡ is_err_or result self.old.is_spent }
     {
-        match self.put_more(stream, packet, library, sink) {
+        match self.put_part(of, packet, library, sink) {
             Ok(()) => Ok(()),
             Err(fault) => {
                 self.is_spent = true;
@@ -109,33 +108,34 @@ impl Switch {
         }
     }
 
-    /// Takes a packet that goes on in the stream of this number.
+    /// Takes a packet that is this to its stream.
     #[inline(always)]
-    pub(super) fn put_more<S: PacketSink>(
+    pub(super) fn put_part<S: PacketSink>(
         &mut self,
-        stream: usize,
+        of: StreamPart,
         packet: &Packet,
         library: &AdLibrary,
         sink: &mut S,
     ) -> Result<(), PutFault>
-        requires { stream < 8 }
+        requires { of.stream < 8 }
         ensures leads { S.leads sink.old sink.new }
-        ensures ok { OfFollowedPuts (GoesOnAt self.old stream) (held library.now) packet.now S.PacketSink sink.old
+        ensures ok { OfFollowedPuts (GoesOnAt self.old of) (held library.now) packet.now S.PacketSink sink.old
             (PutsAll S.PacketSink sink.new result) }
-        ensures stands { AtFollowed (GoesOnAt self.old stream) (held library.now) packet.now
+        ensures stands { AtFollowed (GoesOnAt self.old of) (held library.now) packet.now
             (ComesFurther self.new (held library.now) packet.now result) }
-        ensures turns { AtFollowed (GoesOnAt self.old stream) (held library.now) packet.now
+        ensures turns { AtFollowed (GoesOnAt self.old of) (held library.now) packet.now
             (λ c x. OnOk result (CountsTurns self.old.playing self.new.playing)) }
-        ensures follows { (c : FollowedFor) (past : List (List ℕ)) → SwitchFollows self.old c past → IsMoreOf c stream packet.now past →
+        ensures follows { (c : FollowedFor) (past : List (List ℕ)) → SwitchFollows self.old c past → IsPartOf c of packet.now past →
             OnOk result (SwitchFollows self.new c (packet.now ∷ past)) }
-        ensures err { OfFollowedPuts (GoesOnAt self.old stream) (held library.now) packet.now S.PacketSink sink.old
+        ensures err { OfFollowedPuts (GoesOnAt self.old of) (held library.now) packet.now S.PacketSink sink.old
             (PutsFront S.PacketSink sink.new result) }
         ensures well { OnOk result (WentWell (S.counts sink.old) (S.counts sink.new)) }
         ensures blamed { IfErr result (λ f. Blamed f (S.counts sink.old) (S.counts sink.new) (S.is_full sink.new)) }
         ensures spent { self.new.is_spent ≡ self.old.is_spent }
     {
-        self.follower.go_on(stream, packet);
-        match self.put_of_stream(stream, &StartPacket::NoStart, packet, library, sink) {
+        let given = &of;
+        self.follower.go_on(*given, packet);
+        match self.put_of_stream(given.stream, &given.part, packet, library, sink) {
             Ok(()) => Ok(()),
             Err(fault) => Err(fault),
         }
@@ -217,8 +217,9 @@ impl Switch {
         }
     }
 
-    /// Puts what goes out for a packet that begins a unit in the stream of this number, of this time where it has one.
-    #[inline(always)]
+    /// Puts what goes out for a packet that begins a unit in the stream of this number, of this time where it has one. It
+    /// stands by itself, as few packets do.
+    #[inline(never)]
     fn put_start<S: PacketSink>(
         &mut self,
         stream: usize,

@@ -78,16 +78,16 @@ pub returns-in-Err-feed-clause-err : goal.returns-in-Err-feed-clause-err
 returns-in-Err-feed-clause-err g c = λ start ps cfg x h b. c.in-Err-feed.ensures.err (reading_cues cfg) x.read b.follower
 
 pub returns-in-Ok-clause-ok : goal.returns-in-Ok-clause-ok
-returns-in-Ok-clause-ok g c = λ start ps cfg x h b. c.in-Ok.ensures.ok start ps cfg x h (record { stands = b; more = c.in-Some.ensures.goes_on (reading_cues cfg) x.read b.follower })
+returns-in-Ok-clause-ok g c = λ start ps cfg x h b. c.in-Ok.ensures.ok start ps cfg x h (record { stands = b; part = c.in-Some.ensures.goes_on (reading_cues cfg) x.read b.follower })
 
 pub returns-in-Ok-clause-stands : goal.returns-in-Ok-clause-stands
-returns-in-Ok-clause-stands g c = λ cfg x b. c.in-Ok.ensures.stands cfg x (record { stands = b; more = c.in-Some.ensures.goes_on (reading_cues cfg) x.read b.follower })
+returns-in-Ok-clause-stands g c = λ cfg x b. c.in-Ok.ensures.stands cfg x (record { stands = b; part = c.in-Some.ensures.goes_on (reading_cues cfg) x.read b.follower })
 
 pub returns-in-Ok-clause-turns : goal.returns-in-Ok-clause-turns
-returns-in-Ok-clause-turns g c = λ cfg x b. c.in-Ok.ensures.turns cfg x (record { stands = b; more = c.in-Some.ensures.goes_on (reading_cues cfg) x.read b.follower })
+returns-in-Ok-clause-turns g c = λ cfg x b. c.in-Ok.ensures.turns cfg x (record { stands = b; part = c.in-Some.ensures.goes_on (reading_cues cfg) x.read b.follower })
 
 pub returns-in-Ok-clause-sound : goal.returns-in-Ok-clause-sound
 returns-in-Ok-clause-sound g c = λ cfg x b. (c.in-Some.ensures.goes_on (reading_cues cfg) x.read b.follower).sound
 
 pub returns-in-Err-clause-err : goal.returns-in-Err-clause-err
-returns-in-Err-clause-err g c = λ start ps cfg x h b. c.in-Err.ensures.err start ps cfg x h (record { stands = b; more = c.in-Some.ensures.goes_on (reading_cues cfg) x.read b.follower })
+returns-in-Err-clause-err g c = λ start ps cfg x h b. c.in-Err.ensures.err start ps cfg x h (record { stands = b; part = c.in-Some.ensures.goes_on (reading_cues cfg) x.read b.follower })
