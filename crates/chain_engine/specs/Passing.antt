@@ -8,6 +8,7 @@ use Rattle.psi_tables.specs.declared.network.FeedFault.TheVariants.{Network, Sin
 use Rattle.program_follower.specs.Faults.{network_fault, first_fault}
 use Rattle.program_follower.specs.Purposes.{writing_cues}
 use Rattle.program_follower.specs.Following.{IsUnfollowed}
+use Rattle.program_follower.specs.declared.starts.StreamPart.{StreamPart}
 use Rattle.outgoing_packets.specs.Numbers.{FrontFails}
 use Rattle.injector.specs.Steps.{Step, Packet, packets_in, cued, sent_at}
 use Rattle.injector.specs.Injecting.{GoesOnAlone, InjectorStandsFor}
@@ -46,9 +47,9 @@ pub record PassesBy (s : Service) (c : Config) (filed : ℕ → Option Advertise
   pub stands : ServiceStandsFor s c filed (Packet p ∷ steps)
   pub alone : chain_at c filed p steps ≡ p ∷ []
 
--- A packet goes on alone for a service, in the stream of this number, whatever its injector has gone.
-abbrev pub GoesOnBy : Service → ℕ → List ℕ → Type 0
-GoesOnBy s stream p = (c : Config) (steps : List Step) → InjectorStandsFor s.injector c steps → GoesOnAlone c stream p steps
+-- A packet goes on alone for a service, as this to its stream, whatever its injector has gone.
+abbrev pub GoesOnBy : Service → StreamPart → List ℕ → Type 0
+GoesOnBy s of p = (c : Config) (steps : List Step) → InjectorStandsFor s.injector c steps → GoesOnAlone c of p steps
 
 -- the same service, of which it is open whether what was due of the advertisements that run is out
 abbrev pub service_unasked : Service → Service

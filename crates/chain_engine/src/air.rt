@@ -5,14 +5,13 @@ use crate::faults::put_fault;
 use crate::inject::InjectorStage;
 use crate::report::Report;
 use crate::running::ChainStage;
-use crate::service::Service;
 use crate::splice::SwitchStage;
 use crate::unjudged::{Restoring, marked, put_unjudged};
 use arrayvec::ArrayVec;
 use packet_runs::Stage;
 use program_follower::UnitStart;
 use psi_tables::NetworkFault;
-use splice_switch::{Switch, SwitchReport};
+use splice_switch::SwitchReport;
 use std::alloc::Allocator;
 use ts_packet::{Packet, PacketSink, Pid, PutFault};
 
@@ -235,7 +234,7 @@ impl<M: Allocator, U: Automation> AirStage for ChainStage<'_, M, U> {
             report: Report::of_chain(service.injector.counts(), events),
             lost: service.injector.open_count() as u64,
         };
-        *service = Service::new(*self.config);
+        service.begin_anew(*self.config);
         end
     }
 
@@ -341,7 +340,7 @@ impl<M: Allocator, U: Automation> AirStage for InjectorStage<'_, M, U> {
             report: Report::of(injector.counts()),
             lost: injector.open_count() as u64,
         };
-        self.chain.service = Service::new(*self.config);
+        self.chain.service.begin_anew(*self.config);
         end
     }
 
@@ -424,7 +423,7 @@ impl AirStage for SwitchStage<'_> {
             report: self.switch.report(self.library),
             lost: self.switch.open_count() as u64,
         };
-        self.switch = Switch::new(self.config);
+        self.switch.begin_anew(self.config);
         end
     }
 

@@ -1,6 +1,6 @@
 //! What stands for one programme in a chain: the cues that its injector puts in are obeyed by its switch, packet by packet.
 
-ghost use Rattle.std.specs.Prelude.{◌≡◌, ◌<◌, ℕ, ◌++◌, ◌∷◌, [], List, length, Option, Some, OnOk, IfOk, IfErr, IfSome, true};
+ghost use Rattle.std.specs.Prelude.{◌≡◌, ◌<◌, ℕ, ◌++◌, ◌∷◌, [], List, length, Option, Some, OnOk, IfOk, IfErr, IfSome, true, false};
 ghost use Rattle.ts_packet.specs.Fields.{on_one};
 ghost use Rattle.ts_packet.specs.Transfers.{WentWell};
 ghost use Rattle.program_follower.specs.Program.{known_pids};
@@ -29,6 +29,7 @@ use crate::judge::Judge;
 use ad_library::AdLibrary;
 use arrayvec::ArrayVec;
 use injector::{Injector, MessageCounts};
+use program_follower::{StartPacket, StreamPart};
 use psi_tables::{Config, FeedFault};
 use scte104_codec::{BadMessage, Message, Reply};
 use splice_switch::{Switch, SwitchReport};
@@ -64,6 +65,16 @@ impl Service {
             switch: Switch::new(*given),
             config: *given,
         }
+    }
+
+    /// Begins anew for this: it was given no message and no packet, as [`Service::new`] was not, and stays where it lies.
+    pub fn begin_anew(&mut self, config: Config)
+        ensures { (filed : ℕ → Option Advertisement) → ServiceStandsFor self.new config filed [] }
+    {
+        let given = &config;
+        self.injector.begin_anew(*given);
+        self.switch.begin_anew(*given);
+        self.config = *given;
     }
 
     /// What it is configured for.
@@ -214,55 +225,34 @@ impl Service {
         ensures injector { (c : Config) (steps : List Step) → InjectsFor c self.old steps
             → OnOk result (InjectsFor c self.new (PacketStep packet.now ∷ steps)) }
     {
-        match self.goes_on(packet) {
-            Some(stream) => self.go_on(stream, packet, library, out),
-            None => self.pass_on(packet, library, out),
+        if packet.unit_start() {
+            return self.pass_start(packet, library, out);
         }
+        self.pass_next(packet, library, out)
     }
 
-    /// The number of the switched stream in which the next packet of the network goes on with what came before it, where no request was accepted
-    /// since the last packet: it alone goes to the switch, for which it goes on in the same stream. `None` where it is no such packet. It is not
-    /// taken.
-    #[inline(always)]
-    pub fn goes_on(&self, packet: &Packet) -> Option<usize>
-        ensures below { IfSome result (λ stream. stream < 8) }
-        ensures goes_on { IfSome result (λ stream. GoesOnBy self.now stream packet.now) }
-        ensures told { (c : Config) (filed : ℕ → Option Advertisement) (steps : List Step) → ServiceStandsFor self.now c filed steps
-            → (stream : ℕ) → GoesOnAlone c stream packet.now steps → result ≡ Some stream }
-    {
-        if self.switch.is_spent() {
-            return None;
-        }
-        match self.injector.goes_on(packet) {
-            Some(stream) => Some(stream),
-            None => None,
-        }
-    }
-
-    /// Takes the next packet as [`Service::pass`] does, which goes on alone in the stream of this number.
+    /// Does what [`Service::pass`] does, the same way for each packet.
     ///
     /// # Errors
     ///
-    /// `Sink` where the sink failed: it has a front of what the packet sends.
+    /// As for [`Service::pass`].
     #[inline(always)]
-    pub fn go_on<K: PacketSink>(
+    fn pass_next<K: PacketSink>(
         &mut self,
-        stream: usize,
         packet: &Packet,
         library: &AdLibrary,
         out: &mut K,
     ) -> Result<(), FeedFault>
-        requires { stream < 8 }
         ensures leads { K.leads out.old out.new }
-        ensures ok { (c : Config) (steps : List Step) (start : Option (List ℕ)) (ps : List (List ℕ)) → GoesOnAlone c stream packet.now steps
+        ensures ok { (c : Config) (steps : List Step) (start : Option (List ℕ)) (ps : List (List ℕ))
             → ServiceStandsFor self.old c (held library.now) steps → K.holds out.old start ps
             → OnOk result (ServiceStandsFor self.new c (held library.now) (PacketStep packet.now ∷ steps)
             × K.holds out.new start (ps ++ chain_at c (held library.now) packet.now steps)) }
         ensures airs { (c : Config) (steps : List Step) (fed : List Aired) (start : Option (List ℕ)) (ps : List (List ℕ))
-            → GoesOnAlone c stream packet.now steps → ServiceAirs self.old c (held library.now) steps fed → K.holds out.old start ps
+            → ServiceAirs self.old c (held library.now) steps fed → K.holds out.old start ps
             → OnOk result (PassedOnAir self.new c (held library.now) (judged packet.now) steps fed
             (λ qs. K.holds out.new start (ps ++ qs))) }
-        ensures err { (c : Config) (steps : List Step) (start : Option (List ℕ)) (ps : List (List ℕ)) → GoesOnAlone c stream packet.now steps
+        ensures err { (c : Config) (steps : List Step) (start : Option (List ℕ)) (ps : List (List ℕ))
             → ServiceStandsFor self.old c (held library.now) steps → K.holds out.old start ps
             → IfErr result (λ f. PassFails f c (held library.now) packet.now steps (K.holds out.new start ps)
             (λ put q x. K.fails out.new start (ps ++ put) q x)) }
@@ -270,12 +260,108 @@ impl Service {
         ensures blamed { IfErr result (λ f. OutputBlamed (RunFault.Feed f)
             (K.counts out.old) (K.counts out.new) (K.is_full out.new)) }
         ensures config { self.new.config ≡ self.old.config }
-        ensures injector { (c : Config) (steps : List Step) → GoesOnAlone c stream packet.now steps → InjectsFor c self.old steps
+        ensures injector { (c : Config) (steps : List Step) → InjectsFor c self.old steps
+            → OnOk result (InjectsFor c self.new (PacketStep packet.now ∷ steps)) }
+    {
+        match self.goes_on(packet) {
+            Some(of) => self.go_on(of, packet, library, out),
+            None => self.pass_on(packet, library, out),
+        }
+    }
+
+    /// Does what [`Service::pass`] does, for a packet with the start bit. It stands by itself, so that the others are known to begin no unit.
+    ///
+    /// # Errors
+    ///
+    /// As for [`Service::pass`].
+    #[inline(never)]
+    fn pass_start<K: PacketSink>(
+        &mut self,
+        packet: &Packet,
+        library: &AdLibrary,
+        out: &mut K,
+    ) -> Result<(), FeedFault>
+        ensures leads { K.leads out.old out.new }
+        ensures ok { (c : Config) (steps : List Step) (start : Option (List ℕ)) (ps : List (List ℕ))
+            → ServiceStandsFor self.old c (held library.now) steps → K.holds out.old start ps
+            → OnOk result (ServiceStandsFor self.new c (held library.now) (PacketStep packet.now ∷ steps)
+            × K.holds out.new start (ps ++ chain_at c (held library.now) packet.now steps)) }
+        ensures airs { (c : Config) (steps : List Step) (fed : List Aired) (start : Option (List ℕ)) (ps : List (List ℕ))
+            → ServiceAirs self.old c (held library.now) steps fed → K.holds out.old start ps
+            → OnOk result (PassedOnAir self.new c (held library.now) (judged packet.now) steps fed
+            (λ qs. K.holds out.new start (ps ++ qs))) }
+        ensures err { (c : Config) (steps : List Step) (start : Option (List ℕ)) (ps : List (List ℕ))
+            → ServiceStandsFor self.old c (held library.now) steps → K.holds out.old start ps
+            → IfErr result (λ f. PassFails f c (held library.now) packet.now steps (K.holds out.new start ps)
+            (λ put q x. K.fails out.new start (ps ++ put) q x)) }
+        ensures well { OnOk result (WentWell (K.counts out.old) (K.counts out.new)) }
+        ensures blamed { IfErr result (λ f. OutputBlamed (RunFault.Feed f)
+            (K.counts out.old) (K.counts out.new) (K.is_full out.new)) }
+        ensures config { self.new.config ≡ self.old.config }
+        ensures injector { (c : Config) (steps : List Step) → InjectsFor c self.old steps
+            → OnOk result (InjectsFor c self.new (PacketStep packet.now ∷ steps)) }
+    {
+        self.pass_next(packet, library, out)
+    }
+
+    /// What the next packet of the network is to its switched stream, where nothing is wrong with it, no request was accepted since the last packet
+    /// and no cue is due before it: it alone goes to the switch, to which it is the same. `None` where it is no such packet, where it begins a unit
+    /// and a cue may be due, and once the switch takes none. It is not taken.
+    #[inline(always)]
+    pub fn goes_on(&self, packet: &Packet) -> Option<StreamPart>
+        ensures below { IfSome result (λ of. of.stream < 8) }
+        ensures live { IfSome result (λ _. self.now.switch.is_spent ≡ false) }
+        ensures goes_on { IfSome result (λ of. GoesOnBy self.now of packet.now) }
+        ensures told { (c : Config) (filed : ℕ → Option Advertisement) (steps : List Step) → ServiceStandsFor self.now c filed steps
+            → (of : StreamPart) → of.part ≡ StartPacket.NoStart → GoesOnAlone c of packet.now steps → result ≡ Some of }
+    {
+        if self.switch.is_spent() {
+            return None;
+        }
+        match self.injector.goes_on(packet) {
+            Some(of) => Some(of),
+            None => None,
+        }
+    }
+
+    /// Takes the next packet as [`Service::pass`] does, which is this to its stream and goes on alone.
+    ///
+    /// # Errors
+    ///
+    /// `Sink` where the sink failed: it has a front of what the packet sends.
+    #[inline(always)]
+    pub fn go_on<K: PacketSink>(
+        &mut self,
+        of: StreamPart,
+        packet: &Packet,
+        library: &AdLibrary,
+        out: &mut K,
+    ) -> Result<(), FeedFault>
+        requires { of.stream < 8 }
+        ensures leads { K.leads out.old out.new }
+        ensures ok { (c : Config) (steps : List Step) (start : Option (List ℕ)) (ps : List (List ℕ)) → GoesOnAlone c of packet.now steps
+            → ServiceStandsFor self.old c (held library.now) steps → K.holds out.old start ps
+            → OnOk result (ServiceStandsFor self.new c (held library.now) (PacketStep packet.now ∷ steps)
+            × K.holds out.new start (ps ++ chain_at c (held library.now) packet.now steps)) }
+        ensures airs { (c : Config) (steps : List Step) (fed : List Aired) (start : Option (List ℕ)) (ps : List (List ℕ))
+            → GoesOnAlone c of packet.now steps → ServiceAirs self.old c (held library.now) steps fed → K.holds out.old start ps
+            → OnOk result (PassedOnAir self.new c (held library.now) (judged packet.now) steps fed
+            (λ qs. K.holds out.new start (ps ++ qs))) }
+        ensures err { (c : Config) (steps : List Step) (start : Option (List ℕ)) (ps : List (List ℕ)) → GoesOnAlone c of packet.now steps
+            → ServiceStandsFor self.old c (held library.now) steps → K.holds out.old start ps
+            → IfErr result (λ f. PassFails f c (held library.now) packet.now steps (K.holds out.new start ps)
+            (λ put q x. K.fails out.new start (ps ++ put) q x)) }
+        ensures well { OnOk result (WentWell (K.counts out.old) (K.counts out.new)) }
+        ensures blamed { IfErr result (λ f. OutputBlamed (RunFault.Feed f)
+            (K.counts out.old) (K.counts out.new) (K.is_full out.new)) }
+        ensures config { self.new.config ≡ self.old.config }
+        ensures injector { (c : Config) (steps : List Step) → GoesOnAlone c of packet.now steps → InjectsFor c self.old steps
             → InjectsFor c self.new (PacketStep packet.now ∷ steps) }
     {
         of_bytes(packet);
-        self.injector.go_on(stream, packet);
-        match self.switch.go_on(stream, packet, library, out) {
+        let given = &of;
+        self.injector.go_on(*given, packet);
+        match self.switch.go_on(*given, packet, library, out) {
             Ok(()) => Ok(()),
             Err(fault) => Err(fault),
         }

@@ -1,5 +1,5 @@
 -- What is wrong with a packet of a unit, by the packets of the switched PIDs alone.
-use Rattle.std.proofs.Common.{◌≡◌, ℕ, List, [], ◌∷◌, Bool, true, false, not, ◌&&◌, ◌||◌, refl, sym, ap, ◌∙◌, Some, None, if◌then◌else◌}
+use Rattle.std.proofs.Common.{◌≡◌, ℕ, List, [], ◌∷◌, Bool, true, false, not, ◌&&◌, ◌||◌, refl, sym, ap, subst, ◌∙◌, Some, None, if◌then◌else◌}
 use Rattle.std.specs.Prelude.{filter}
 use Rattle.std.specs.List.{AllByRecursion}
 use Rattle.std.proofs.lemmas.Bool.{or_parts}
@@ -10,6 +10,11 @@ use Rattle.ts_packet.proofs.FieldLemmas.{off_payload}
 use Rattle.unit_stream.specs.Times.{begins, begins_one, high, raised, stamp, splits}
 use Rattle.unit_stream.specs.Faults.{scrambled_one, start_fault, unit_fault}
 use Rattle.unit_stream.specs.declared.fault.UnitFault.TheVariants.{Scrambled}
+use Rattle.unit_stream.specs.Clocks.{Tells}
+use Rattle.program_follower.specs.declared.starts.StartPacket.{StartPacket}
+use Rattle.program_follower.specs.declared.starts.StartPacket.TheVariants.{Start, NoStart}
+use Rattle.program_follower.specs.Streaming.{first_on, IsStartPacket}
+use Rattle.program_follower.proofs.StreamLemmas.{is_one}
 use Rattle.program_laws.specs.Behind.{TakesAll}
 use Rattle.program_laws.proofs.CuedLemmas.{takes_within}
 use Rattle.unit_stream.proofs.ClockLemmas.{begins_off_all}
@@ -78,3 +83,17 @@ pub unit_same : (pids : List ℕ) (p : List ℕ) (past other : List (List ℕ)) 
 unit_same pids p past other e =
     ap (λ b. if scrambled_one pids p then Some Scrambled else (if b then start_fault (high pids past) (splits p) (stamp p) else None)) (one_same (on_one pids) pids (takes_within pids pids (λ q n. n)) p past other e)
     ∙ ap (λ h. if scrambled_one pids p then Some Scrambled else (if begins_one pids p other then start_fault h (splits p) (stamp p) else None)) (same_high pids (takes_within pids pids (λ q n. n)) past other e)
+
+-- what a packet is to its stream
+pub part_same : (part : StartPacket) (pids : List ℕ) (x : ℕ × ℕ) (p : List ℕ) (past other : List (List ℕ)) → first_on pids p ≡ Some x
+    → filter (on_one pids) past ≡ filter (on_one pids) other → IsStartPacket part pids x.1 p past → IsStartPacket part pids x.1 p other
+part_same part pids x p past other here e is = by part is where
+  same : begins x.1 p past ≡ begins x.1 p other
+  same =
+      sym (is_one pids p past x here).begins_it
+      ∙ one_same (on_one pids) pids (takes_within pids pids (λ q n. n)) p past other e
+      ∙ (is_one pids p other x here).begins_it
+
+  by : (part : StartPacket) → IsStartPacket part pids x.1 p past → IsStartPacket part pids x.1 p other
+  by (Start begun) is = (sym same ∙ is.0, subst (λ h. Tells begun h (stamp p)) (same_high pids (takes_within pids pids (λ q n. n)) past other e) is.1)
+  by NoStart is = sym same ∙ is

@@ -21,7 +21,7 @@ returns-clause-follows g c = λ purpose past (is, f). (
     n = f.n;
     k = f.k;
     talks = f.talks;
-    followed = record { steps = []; injector = (c.new.ensures (λ n. None)).injector; packets = refl };
+    followed = record { steps = []; injector = (c.begin_anew.ensures (λ n. None)).injector; packets = refl };
   },
 )
 
@@ -42,9 +42,9 @@ returns-clause-airs g c = λ first ended last told qs behind (is, lib, h).
       messages = c.of_chain.ensures.messages d steps (c.counts.ensures d steps h.gone.injector.judges);
       events = subst (λ (r : SwitchReport). ReportIs r (report_of k (journey_of k fed).read)) (sym c.of_chain.ensures.events) told_so;
     } in
-    let anew = subst (λ w. ServiceStandsFor c.new.result w filed []) is (c.new.ensures filed) in (
+    let anew = subst (λ w. ServiceStandsFor c.begin_anew.new.self w filed []) is (c.begin_anew.ensures filed) in (
       is,
       lib,
-      chain-begins d filed ended last told qs exchanged old.service.switch old.service c.new.result old.talk behind c.of_chain.result h counted
+      chain-begins d filed ended last told qs exchanged old.service.switch old.service c.begin_anew.new.self old.talk behind c.of_chain.result h counted
           (record { injector = anew.injector; switch_is = refl; network = anew.network; config = anew.config }) anew.switch,
     )

@@ -16,7 +16,7 @@ returns-clause-follows g c = λ purpose past (is, f). (
     n = f.n;
     k = f.k;
     talks = f.talks;
-    followed = record { steps = []; injector = (c.new-self.ensures (λ n. None)).injector; packets = refl };
+    followed = record { steps = []; injector = (c.begin_anew.ensures (λ n. None)).injector; packets = refl };
   },
 )
 
@@ -27,8 +27,8 @@ returns-clause-airs g c = λ first ended last told qs behind (is, h).
     let exchanged = Exchanged g.U.Automation.exchanges g.U.Automation.failures first.automation.now c.args.self.now.automation.now in
     let steps = steps_on_air (length h.rs) h.ts (packets_through ended) last in
     let counted = c.of.ensures d steps (c.counts.ensures d steps h.gone.judges) in
-    let anew = subst (λ w. InjectorStandsFor c.new-self.result.injector w []) is (c.new-self.ensures (λ n. None)).injector in (
+    let anew = subst (λ w. InjectorStandsFor c.begin_anew.new.self.injector w []) is (c.begin_anew.ensures (λ n. None)).injector in (
       is,
-      begun_on_air (InjectsFor d) (reply_in d) exchanged ended last old.service c.new-self.result old.talk (InjectedSoFar d ended last told qs) _ behind h anew
+      begun_on_air (InjectsFor d) (reply_in d) exchanged ended last old.service c.begin_anew.new.self old.talk (InjectedSoFar d ended last told qs) _ behind h anew
           (injected-anew d ended last told qs behind c.of.result (length h.rs) h.ts counted),
     )

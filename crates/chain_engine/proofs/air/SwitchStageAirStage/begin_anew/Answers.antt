@@ -9,7 +9,7 @@ use Rattle.chain_engine.specs.Switched.{journey_of, switched_by_ended, switched_
 use Rattle.chain_engine.proofs.air.SwitchStageAirStage.begin_anew.Goals as goal
 
 pub returns-clause-follows : goal.returns-clause-follows
-returns-clause-follows c = λ purpose past (is, f). (is, subst (λ d. SwitchFollows c.new-self.result d []) (sym is) (c.new-self.ensures (λ n. None)).follower)
+returns-clause-follows c = λ purpose past (is, f). (is, subst (λ d. SwitchFollows c.begin_anew.new.self d []) (sym is) (c.begin_anew.ensures (λ n. None)).follower)
 
 pub returns-clause-airs : goal.returns-clause-airs
 returns-clause-airs c = λ first ended last told qs behind (is, lib, a).
@@ -23,7 +23,7 @@ returns-clause-airs c = λ first ended last told qs behind (is, lib, a).
       is,
       lib,
       record {
-        stands = subst (λ w. SwitchStandsAt c.new-self.result w filed (journey_of k [])) is (c.new-self.ensures filed);
+        stands = subst (λ w. SwitchStandsAt c.begin_anew.new.self w filed (journey_of k [])) is (c.begin_anew.ensures filed);
         sent = append-nil (before ++ (one ++ behind)) ∙ sym (append_assoc before one behind) ∙ ap (λ l. l ++ behind) a.sent;
         told_so = (reports, a.told_so);
       },

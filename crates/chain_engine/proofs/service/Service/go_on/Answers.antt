@@ -4,7 +4,7 @@ use Rattle.std.proofs.lemmas.List.{append-nil}
 use Rattle.ts_packet.specs.Runs.{onto}
 use Rattle.ad_library.specs.Library.{held}
 use Rattle.program_follower.specs.Purposes.{reading_cues}
-use Rattle.program_follower.specs.Following.{IsMoreOf}
+use Rattle.program_follower.specs.Following.{IsPartOf}
 use Rattle.injector.specs.Steps.{packets_in, cued}
 use Rattle.injector.proofs.PassedLemmas.{goes-on-sent}
 use Rattle.splice_plans.specs.Adverts.{setting_of}
@@ -26,9 +26,8 @@ returns-in-Ok-clause-ok g c = λ d steps start ps alone stands is_held.
     let p = c.args.packet.now in
     let k = setting_of d f in
     let past = cued d steps in
-    let i = c.args.self.now.injector in
-    let sent = goes-on-sent i d c.args.stream p steps stands.injector alone in
-    let more = alone-read i d c.args.stream p steps stands.injector stands.network c.of_bytes.ensures alone in (
+    let sent = goes-on-sent d c.args.of p steps alone in
+    let more = alone-read d c.args.of p steps stands.network c.of_bytes.ensures alone in (
       record {
         injector = c.go_on.ensures.stands d steps stands.injector alone;
         switch = subst (λ qs. SwitchStandsFor c.go_on-2.new.self d f (onto past qs)) (sym sent) (c.in-Ok.ensures.stands d past stands.switch more);
@@ -45,10 +44,9 @@ returns-in-Ok-clause-airs g c = λ d steps fed start ps alone h is_held.
     let f = held c.args.library.now in
     let p = c.args.packet.now in
     let k = setting_of d f in
-    let i = c.args.self.now.injector in
-    let sent = goes-on-sent i d c.args.stream p steps h.injector alone in
-    let cued-more = alone-read i d c.args.stream p steps h.injector h.network c.of_bytes.ensures alone in
-    let more = subst (λ past. IsMoreOf (reading_cues d) c.args.stream p past) (sym h.read) cued-more in
+    let sent = goes-on-sent d c.args.of p steps alone in
+    let cued-more = alone-read d c.args.of p steps h.network c.of_bytes.ensures alone in
+    let more = subst (λ past. IsPartOf (reading_cues d) c.args.of p past) (sym h.read) cued-more in
     record {
       airs = record {
         injector = c.go_on.ensures.stands d steps h.injector alone;
@@ -65,8 +63,7 @@ returns-in-Ok-clause-airs g c = λ d steps fed start ps alone h is_held.
 pub returns-in-Err-clause-err : goal.returns-in-Err-clause-err
 returns-in-Err-clause-err g c = λ d steps start ps alone stands is_held.
     let p = c.args.packet.now in
-    let i = c.args.self.now.injector in
-    let more = alone-read i d c.args.stream p steps stands.injector stands.network c.of_bytes.ensures alone in
+    let more = alone-read d c.args.of p steps stands.network c.of_bytes.ensures alone in
     by_kept d (held c.args.library.now) start g.K.PacketSink.fails c.go_on-2.new.sink ps p steps (g.K.PacketSink.holds c.go_on-2.new.sink start ps) [] p []
-    (one_more d p (packets_in steps) stands.network c.of_bytes.ensures alone.goes_on.sound) (goes-on-sent i d c.args.stream p steps stands.injector alone)
+    (one_more d p (packets_in steps) stands.network c.of_bytes.ensures alone.goes_on.sound) (goes-on-sent d c.args.of p steps alone)
     c.in-Err.fault (c.in-Err.ensures.err start ps d (cued d steps) is_held stands.switch more)

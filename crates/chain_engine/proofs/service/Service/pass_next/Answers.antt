@@ -1,4 +1,4 @@
-use Rattle.chain_engine.proofs.service.Service.pass_followed.Goals as goal
+use Rattle.chain_engine.proofs.service.Service.pass_next.Goals as goal
 
 pub returns-in-Some-clause-ok : goal.returns-in-Some-clause-ok
 returns-in-Some-clause-ok g c = λ d steps start ps stands is_held. c.go_on.ensures.ok d steps start ps (c.in-Some.ensures.goes_on d steps stands.injector) stands is_held
