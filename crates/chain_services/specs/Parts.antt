@@ -11,6 +11,7 @@ use Rattle.outgoing_packets.specs.Numbers.{FrontFails}
 use Rattle.injector.specs.Steps.{Step, Packet, packets_in, cued}
 use Rattle.chain_engine.specs.Passing.{chain_at, GoesOnBy}
 use Rattle.chain_engine.specs.declared.service.Service.{Service}
+use Rattle.program_follower.specs.declared.starts.StreamPart.{StreamPart}
 use Rattle.service_laws.specs.Messages.{own_steps}
 use Rattle.service_laws.specs.Services.{ServiceTerms, configs_of, services_rest}
 use Rattle.service_laws.specs.Faults.{services_fault}
@@ -19,6 +20,7 @@ use Rattle.splice_plans.specs.Reporting.{ReportIs, report_of}
 use Rattle.splice_plans.specs.Switching.{rest_at}
 use Rattle.chain_services.specs.Owners.{IsShifted}
 use Rattle.chain_services.specs.Serving.{ServesAs, AllServe}
+use Rattle.chain_services.specs.declared.owners.Alone.{Alone}
 use Rattle.chain_services.specs.declared.report.ServiceEvents.{ServiceEvents}
 
 -- the packet is on a PID of the service
@@ -75,15 +77,15 @@ pub record PassedEach (is_own learns : Bool) (services : List Service) (ts : Lis
   pub serve : AllServe services ts (Packet p ∷ steps)
   pub out : is_out (parts_of ts p steps)
 
--- the first of these services goes on alone with the packet, in the switched stream of this number
-abbrev pub FirstGoesOn : List Service → ℕ → List ℕ → Type 0
-FirstGoesOn [] stream p = ⊥
-FirstGoesOn (s ∷ services) stream p = GoesOnBy s stream p
+-- the packet goes on alone for the first of these services, as this to its stream
+abbrev pub FirstGoesOn : List Service → StreamPart → List ℕ → Type 0
+FirstGoesOn [] of p = ⊥
+FirstGoesOn (s ∷ services) of p = GoesOnBy s of p
 
 -- the one behind so many of them alone takes it, and goes on so
-pub record GoesOnBehind (takers count stream : ℕ) (services : List Service) (p : List ℕ) : Type 0 where
-  pub taker : IsShifted count 1 takers
-  pub goes_on : FirstGoesOn (drop count services) stream p
+pub record GoesOnBehind (takers : ℕ) (alone : Alone) (services : List Service) (p : List ℕ) : Type 0 where
+  pub taker : IsShifted alone.count 1 takers
+  pub goes_on : FirstGoesOn (drop alone.count services) alone.of p
 
 -- a front of these packets is out
 pub record FrontIsOut (packets : List (List ℕ)) (is_out : List (List ℕ) → Type 0) : Type 0 where

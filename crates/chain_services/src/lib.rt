@@ -24,6 +24,7 @@ pub use nowhere::Nowhere;
 pub use owners::{
     Alone, Owners, Shift, leaves_out, leaves_out_all, shift_of, takes_all, with_taker,
 };
+pub use passing::has_turned;
 pub use refusal::{Refusal, run_fault_of};
 pub use report::{ServiceEvents, ServiceReport};
 pub use running::{ServicesStage, run_services};

@@ -11,6 +11,7 @@ ghost use Rattle.chain_services.specs.Serving.{ServesAs, AllServe};
 ghost use Rattle.chain_services.specs.Owners.{LeavesOut, HasOwners, AllTake, IsTold, ToldAnew, IsShifted, has_pid};
 
 use chain_engine::Service;
+use program_follower::StreamPart;
 use std::marker::Model;
 use ts_packet::{Packet, Pid};
 
@@ -113,8 +114,8 @@ pub fn leaves_out_all(all: bool, takers: u8) -> bool
 pub struct Alone {
     /// So many services stand before that one.
     pub count: usize,
-    /// The number of its switched stream in which the packet goes on.
-    pub stream: usize,
+    /// What the packet is to the switched stream of that one.
+    pub of: StreamPart,
 }
 
 /// Where the first service stands that takes a packet.

@@ -1,6 +1,6 @@
 //! One packet through all services.
 
-ghost use Rattle.std.specs.Prelude.{◌≡◌, ◌<◌, ◌≤◌, ◌||◌, ◌++◌, ◌∷◌, ℕ, List, length, Option, OnOk, IfOk, IfErr, IfSome, true, false};
+ghost use Rattle.std.specs.Prelude.{◌≡◌, ◌<◌, ◌≤◌, ◌||◌, ◌&&◌, ◌==◌, not, ◌++◌, ◌∷◌, ℕ, List, length, Option, OnOk, IfOk, IfErr, IfSome, true, false};
 ghost use Rattle.ts_packet.specs.Transfers.{WentWell};
 ghost use Rattle.injector.specs.Steps.{Step, Packet as PacketStep, packets_in};
 ghost use Rattle.ad_library.specs.Library.{held};
@@ -18,6 +18,7 @@ use crate::nowhere::Nowhere;
 use crate::owners::{Alone, leaves_out, leaves_out_all, shift_of, takes_all};
 use ad_library::AdLibrary;
 use chain_engine::{RunFault, Service, of_bytes};
+use program_follower::StreamPart;
 use psi_tables::FeedFault;
 use std::alloc::Allocator;
 use ts_packet::{Packet, PacketSink};
@@ -77,34 +78,46 @@ fn pass_and_learn<K: PacketSink>(
     }
 }
 
-/// Passes a packet on through a service, which goes on alone in the stream of this number: it is of its own, and no PID more is known with it.
+/// Whether something has turned in a switch that counted so many turns before a packet and so many behind it. Nothing turns where no unit begins,
+/// so that the counts of most packets need not be looked at.
+#[inline(always)]
+pub fn has_turned(is_start: bool, before: u64, behind: u64) -> bool
+    ensures { result ≡ (is_start && not (before == behind)) }
+{
+    is_start && before != behind
+}
+
+/// Passes a packet on through a service, which is this to its stream and goes on alone: it is of its own, and no PID more is known with it.
+/// Whether something has turned in its switch.
 ///
 /// # Errors
 ///
 /// As for [`Service::go_on`].
 #[inline(always)]
 fn pass_alone<K: PacketSink>(
-    stream: usize,
+    of: StreamPart,
     service: &mut Service,
     library: &AdLibrary,
     packet: &Packet,
     out: &mut K,
-) -> Result<(), FeedFault>
-    requires { stream < 8 }
+) -> Result<bool, FeedFault>
+    requires { of.stream < 8 }
     ensures leads { K.leads out.old out.new }
     ensures ok { (t : ServiceTerms) (steps : List Step) (start : Option (List ℕ)) (ps : List (List ℕ))
-        → held library.now ≡ t.filed → ServesAs service.old t steps → GoesOnBy service.old stream packet.now
+        → held library.now ≡ t.filed → ServesAs service.old t steps → GoesOnBy service.old of packet.now
         → K.holds out.old start ps → OnOk result (PassedOne true false service.new t packet.now steps (λ l. K.holds out.new start (ps ++ l))) }
     ensures err { (t : ServiceTerms) (steps : List Step) (start : Option (List ℕ)) (ps : List (List ℕ))
-        → held library.now ≡ t.filed → ServesAs service.old t steps → GoesOnBy service.old stream packet.now
+        → held library.now ≡ t.filed → ServesAs service.old t steps → GoesOnBy service.old of packet.now
         → K.holds out.old start ps → IfErr result (λ f. FailedOne f t packet.now steps (λ l. K.holds out.new start (ps ++ l))
         (λ put q x. K.fails out.new start (ps ++ put) q x)) }
     ensures well { OnOk result (WentWell (K.counts out.old) (K.counts out.new)) }
     ensures blamed { IfErr result (λ f. OutputBlamed (RunFault.Feed f)
         (K.counts out.old) (K.counts out.new) (K.is_full out.new)) }
 {
-    match service.go_on(stream, packet, library, out) {
-        Ok(()) => Ok(()),
+    let given = &of;
+    let turns = service.switch().turns();
+    match service.go_on(*given, packet, library, out) {
+        Ok(()) => Ok(has_turned(given.part.is_start(), turns, service.switch().turns())),
         Err(fault) => Err(fault),
     }
 }
@@ -300,27 +313,28 @@ fn pass_first<K: PacketSink>(
     pass_one(false, service, library, packet, out)
 }
 
-/// Passes a packet on through the first of these services, which alone takes it, and for which it goes on alone in the stream of this number.
+/// Passes a packet on through the first of these services, which alone takes it, and for which it goes on alone, as this to its stream.
+/// Whether something has turned in the switch of that one.
 ///
 /// # Errors
 ///
 /// As for [`pass_each`].
 #[inline(always)]
 fn go_on_first<K: PacketSink>(
-    stream: usize,
+    of: StreamPart,
     services: &mut [Service],
     libraries: &[AdLibrary],
     packet: &Packet,
     out: &mut K,
-) -> Result<(), FeedFault>
-    requires { stream < 8 }
+) -> Result<bool, FeedFault>
+    requires { of.stream < 8 }
     ensures leads { K.leads out.old out.new }
     ensures ok { (ts : List ServiceTerms) (steps : List Step) (start : Option (List ℕ)) (ps : List (List ℕ))
         → FiledAs libraries.now ts → AllServe services.old ts steps → AreSkipped 1 ts packet.now steps
-        → FirstGoesOn services.old stream packet.now → K.holds out.old start ps
+        → FirstGoesOn services.old of packet.now → K.holds out.old start ps
         → OnOk result (PassedEach true false services.new ts packet.now steps (λ l. K.holds out.new start (ps ++ l))) }
     ensures err { (ts : List ServiceTerms) (steps : List Step) (start : Option (List ℕ)) (ps : List (List ℕ))
-        → FiledAs libraries.now ts → AllServe services.old ts steps → FirstGoesOn services.old stream packet.now → K.holds out.old start ps
+        → FiledAs libraries.now ts → AllServe services.old ts steps → FirstGoesOn services.old of packet.now → K.holds out.old start ps
         → IfErr result (λ f. FailedEach f ts packet.now steps (parts_of ts packet.now steps)
         (λ l. K.holds out.new start (ps ++ l)) (λ put q x. K.fails out.new start (ps ++ put) q x)) }
     ensures well { OnOk result (WentWell (K.counts out.old) (K.counts out.new)) }
@@ -334,8 +348,8 @@ fn go_on_first<K: PacketSink>(
     let Some((library, _behind)) = libraries.split_first() else {
         return Err(FeedFault::Failed);
     };
-    match pass_alone(stream, service, library, packet, out) {
-        Ok(()) => Ok(()),
+    match pass_alone(of, service, library, packet, out) {
+        Ok(has_turned) => Ok(has_turned),
         Err(fault) => Err(fault),
     }
 }
@@ -396,10 +410,10 @@ impl<M: Allocator> Desk<M> {
     /// taken.
     #[inline(always)]
     fn goes_on(&self, takers: u8, libraries: &[AdLibrary], packet: &Packet) -> Option<Alone>
-        ensures below { IfSome result (λ alone. alone.stream < 8) }
+        ensures below { IfSome result (λ alone. alone.of.stream < 8) }
         ensures services { IfSome result (λ alone. alone.count ≤ self.now.services.len) }
         ensures libraries { IfSome result (λ alone. alone.count ≤ length libraries.now) }
-        ensures goes_on { IfSome result (λ alone. GoesOnBehind takers alone.count alone.stream (services_in self.now) packet.now) }
+        ensures goes_on { IfSome result (λ alone. GoesOnBehind takers alone (services_in self.now) packet.now) }
     {
         let services = self.services.as_slice();
         let shift = shift_of(takers, services.len().min(libraries.len()));
@@ -411,15 +425,15 @@ impl<M: Allocator> Desk<M> {
             return None;
         };
         match service.goes_on(packet) {
-            Some(stream) => Some(Alone {
+            Some(of) => Some(Alone {
                 count: shift.count,
-                stream,
+                of,
             }),
             None => None,
         }
     }
 
-    /// Passes a packet on through the service that alone takes it, and for which it goes on alone.
+    /// Passes a packet on through the service that alone takes it, and for which it goes on alone. Whether something has turned in its switch.
     ///
     /// # Errors
     ///
@@ -431,18 +445,18 @@ impl<M: Allocator> Desk<M> {
         packet: &Packet,
         libraries: &[AdLibrary],
         out: &mut K,
-    ) -> Result<(), FeedFault>
-        requires below { alone.stream < 8 }
+    ) -> Result<bool, FeedFault>
+        requires below { alone.of.stream < 8 }
         requires services { alone.count ≤ self.old.services.len }
         requires libraries { alone.count ≤ length libraries.now }
         ensures leads { K.leads out.old out.new }
         ensures ok { (ts : List ServiceTerms) (steps : List Step) (takers : ℕ) (start : Option (List ℕ)) (ps : List (List ℕ))
             → FiledAs libraries.now ts → AllServe (services_in self.old) ts steps → AreSkipped takers ts packet.now steps
-            → GoesOnBehind takers alone.count alone.stream (services_in self.old) packet.now → K.holds out.old start ps
+            → GoesOnBehind takers alone (services_in self.old) packet.now → K.holds out.old start ps
             → OnOk result (PassedEach true false (services_in self.new) ts packet.now steps (λ l. K.holds out.new start (ps ++ l))) }
         ensures err { (ts : List ServiceTerms) (steps : List Step) (takers : ℕ) (start : Option (List ℕ)) (ps : List (List ℕ))
             → FiledAs libraries.now ts → AllServe (services_in self.old) ts steps → AreSkipped takers ts packet.now steps
-            → GoesOnBehind takers alone.count alone.stream (services_in self.old) packet.now → K.holds out.old start ps
+            → GoesOnBehind takers alone (services_in self.old) packet.now → K.holds out.old start ps
             → IfErr result (λ f. FailedEach f ts packet.now steps (parts_of ts packet.now steps)
             (λ l. K.holds out.new start (ps ++ l)) (λ put q x. K.fails out.new start (ps ++ put) q x)) }
         ensures well { OnOk result (WentWell (K.counts out.old) (K.counts out.new)) }
@@ -455,8 +469,8 @@ impl<M: Allocator> Desk<M> {
         of_bytes(packet);
         let (_, libraries) = libraries.split_at(alone.count);
         let (_, services) = self.services.as_mut_slice().split_at_mut(alone.count);
-        match go_on_first(alone.stream, services, libraries, packet, out) {
-            Ok(()) => Ok(()),
+        match go_on_first(alone.of, services, libraries, packet, out) {
+            Ok(has_turned) => Ok(has_turned),
             Err(fault) => Err(fault),
         }
     }
@@ -504,10 +518,10 @@ impl<M: Allocator> Desk<M> {
         if !all {
             if let Some(alone) = self.goes_on(takers, libraries, packet) {
                 return match self.go_on(alone, packet, libraries, out) {
-                    Ok(()) => Ok(Passed {
+                    Ok(has_turned) => Ok(Passed {
                         is_own: true,
                         learns: false,
-                        has_turned: false,
+                        has_turned,
                     }),
                     Err(fault) => Err(fault),
                 };
@@ -518,6 +532,89 @@ impl<M: Allocator> Desk<M> {
             Ok(passed) => Ok(passed),
             Err(fault) => Err(fault),
         }
+    }
+
+    /// Passes a packet on as [`Desk::pass`] does, through the services that take it: all, or those whose bits are set.
+    ///
+    /// # Errors
+    ///
+    /// As for [`Desk::pass`].
+    #[inline(always)]
+    fn pass_next<K: PacketSink>(
+        &mut self,
+        all: bool,
+        takers: u8,
+        packet: &Packet,
+        libraries: &[AdLibrary],
+        out: &mut K,
+    ) -> Result<bool, FeedFault>
+        ensures leads { K.leads out.old out.new }
+        ensures ok { (ts : List ServiceTerms) (steps : List Step) (start : Option (List ℕ)) (ps : List (List ℕ))
+            → FiledAs libraries.now ts → share_a_pid (configs_of ts) (packets_in steps) ≡ false
+            → AllServe (services_in self.old) ts steps → (all ≡ false → AreSkipped takers ts packet.now steps) → K.holds out.old start ps
+            → IfOk result (λ learns. AllServe (services_in self.new) ts (PacketStep packet.now ∷ steps)
+            × K.holds out.new start (ps ++ given_at ts packet.now steps)
+            × (learns ≡ false → AllKnowSame ts packet.now (packets_in steps))) }
+        ensures err { (ts : List ServiceTerms) (steps : List Step) (start : Option (List ℕ)) (ps : List (List ℕ))
+            → FiledAs libraries.now ts → share_a_pid (configs_of ts) (packets_in steps) ≡ false
+            → AllServe (services_in self.old) ts steps → (all ≡ false → AreSkipped takers ts packet.now steps) → K.holds out.old start ps
+            → IfErr result (λ f. FailedEach f ts packet.now steps (given_at ts packet.now steps)
+            (λ l. K.holds out.new start (ps ++ l)) (λ put q x. K.fails out.new start (ps ++ put) q x)) }
+        ensures well { OnOk result (WentWell (K.counts out.old) (K.counts out.new)) }
+        ensures blamed { IfErr result (λ f. OutputBlamed (RunFault.Feed f)
+            (K.counts out.old) (K.counts out.new) (K.is_full out.new)) }
+        ensures none { self.new.none ≡ self.old.none }
+        ensures counts { self.new.counts ≡ self.old.counts }
+        ensures owners { self.new.owners ≡ self.old.owners }
+    {
+        let passed = match self.pass_through(all, takers, packet, libraries, out) {
+            Ok(passed) => passed,
+            Err(fault) => return Err(fault),
+        };
+        self.turns = self.turns.wrapping_add(u64::from(passed.has_turned));
+        if !passed.is_own {
+            match out.put(packet) {
+                Ok(()) => {}
+                Err(fault) => return Err(FeedFault::Sink(fault)),
+            }
+        }
+        Ok(passed.learns)
+    }
+
+    /// Does what [`Desk::pass_next`] does, for a packet with the start bit. It stands by itself, so that the others are known to begin no unit.
+    ///
+    /// # Errors
+    ///
+    /// As for [`Desk::pass`].
+    #[inline(never)]
+    fn pass_start<K: PacketSink>(
+        &mut self,
+        all: bool,
+        takers: u8,
+        packet: &Packet,
+        libraries: &[AdLibrary],
+        out: &mut K,
+    ) -> Result<bool, FeedFault>
+        ensures leads { K.leads out.old out.new }
+        ensures ok { (ts : List ServiceTerms) (steps : List Step) (start : Option (List ℕ)) (ps : List (List ℕ))
+            → FiledAs libraries.now ts → share_a_pid (configs_of ts) (packets_in steps) ≡ false
+            → AllServe (services_in self.old) ts steps → (all ≡ false → AreSkipped takers ts packet.now steps) → K.holds out.old start ps
+            → IfOk result (λ learns. AllServe (services_in self.new) ts (PacketStep packet.now ∷ steps)
+            × K.holds out.new start (ps ++ given_at ts packet.now steps)
+            × (learns ≡ false → AllKnowSame ts packet.now (packets_in steps))) }
+        ensures err { (ts : List ServiceTerms) (steps : List Step) (start : Option (List ℕ)) (ps : List (List ℕ))
+            → FiledAs libraries.now ts → share_a_pid (configs_of ts) (packets_in steps) ≡ false
+            → AllServe (services_in self.old) ts steps → (all ≡ false → AreSkipped takers ts packet.now steps) → K.holds out.old start ps
+            → IfErr result (λ f. FailedEach f ts packet.now steps (given_at ts packet.now steps)
+            (λ l. K.holds out.new start (ps ++ l)) (λ put q x. K.fails out.new start (ps ++ put) q x)) }
+        ensures well { OnOk result (WentWell (K.counts out.old) (K.counts out.new)) }
+        ensures blamed { IfErr result (λ f. OutputBlamed (RunFault.Feed f)
+            (K.counts out.old) (K.counts out.new) (K.is_full out.new)) }
+        ensures none { self.new.none ≡ self.old.none }
+        ensures counts { self.new.counts ≡ self.old.counts }
+        ensures owners { self.new.owners ≡ self.old.owners }
+    {
+        self.pass_next(all, takers, packet, libraries, out)
     }
 
     /// Passes a packet on: what the service sends on whose PIDs it is, or the packet alone. Whether more PIDs may be known of a service.
@@ -555,17 +652,9 @@ impl<M: Allocator> Desk<M> {
         let takers = self.owners.takers(packet);
         let all = takes_all(self.has_heard, takers);
         self.has_heard = false;
-        let passed = match self.pass_through(all, takers, packet, libraries, out) {
-            Ok(passed) => passed,
-            Err(fault) => return Err(fault),
-        };
-        self.turns = self.turns.wrapping_add(u64::from(passed.has_turned));
-        if !passed.is_own {
-            match out.put(packet) {
-                Ok(()) => {}
-                Err(fault) => return Err(FeedFault::Sink(fault)),
-            }
+        if packet.unit_start() {
+            return self.pass_start(all, takers, packet, libraries, out);
         }
-        Ok(passed.learns)
+        self.pass_next(all, takers, packet, libraries, out)
     }
 }

@@ -10,7 +10,7 @@ returns-in-Ok-clause-ok g c = λ ts steps start ps filed all skip on is_held.
     let long : c.args.libraries.now ≡ c.in-Some-split_first.library.now ∷ c.in-Some-split_first._behind.now = search rules in
     let p = c.args.packet.now in
     let h = parted c.args.services.now c.args.libraries.now c.in-Some.service.now c.in-Some._others.now c.in-Some-split_first.library.now c.in-Some-split_first._behind.now ts steps shape long filed all in
-    let by = subst (λ l. FirstGoesOn l c.args.stream p) shape on in
+    let by = subst (λ l. FirstGoesOn l c.args.of p) shape on in
     let skips = skips-first 1 h.t h.rest ts p steps h.parts skip in
     passed-first true false c.pass_alone.new.service c.in-Some._others.now ts h.t h.rest h.parts p steps (g.K.PacketSink.holds c.pass_alone.new.out start) ps
     (c.in-Ok.ensures.ok h.t steps start ps h.filed h.serves by is_held) h.serve_rest c.of_bytes.ensures skips.1
@@ -21,5 +21,5 @@ returns-in-Err-clause-err g c = λ ts steps start ps filed all on is_held.
     let long : c.args.libraries.now ≡ c.in-Some-split_first.library.now ∷ c.in-Some-split_first._behind.now = search rules in
     let p = c.args.packet.now in
     let h = parted c.args.services.now c.args.libraries.now c.in-Some.service.now c.in-Some._others.now c.in-Some-split_first.library.now c.in-Some-split_first._behind.now ts steps shape long filed all in
-    let by = subst (λ l. FirstGoesOn l c.args.stream p) shape on in
+    let by = subst (λ l. FirstGoesOn l c.args.of p) shape on in
     first_of_failed c.in-Err.fault ts h.t h.rest h.parts p steps _ _ (c.in-Err.ensures.err h.t steps start ps h.filed h.serves by is_held)

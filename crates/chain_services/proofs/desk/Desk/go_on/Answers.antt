@@ -22,8 +22,8 @@ returns-in-Ok-clause-ok g c = λ ts steps takers start ps filed all skip on is_h
     let whole = whole-of n c.args.libraries.now lfront lback c.split_at.ensures.front c.split_at.ensures.back in
     let w = behind-front lfront lback front back ts p steps 1 takers (c.split_at.ensures.front_len ∙ sym many) (subst (λ k. IsShifted k 1 takers) (sym many) on.taker) c.of_bytes.ensures
     (subst (λ l. FiledAs l ts) whole filed) (subst (λ l. AllServe l ts steps) items all) skip in
-    let by : FirstGoesOn back c.args.alone.stream p =
-    subst (λ l. FirstGoesOn l c.args.alone.stream p) (ap (drop n) items ∙ subst (λ k. drop k (front ++ back) ≡ back) many (drop-append_seam front back)) on.goes_on in
+    let by : FirstGoesOn back c.args.alone.of p =
+    subst (λ l. FirstGoesOn l c.args.alone.of p) (ap (drop n) items ∙ subst (λ k. drop k (front ++ back) ≡ back) many (drop-append_seam front back)) on.goes_on in
     let done = passed-behind lback front back 1 ts p steps w true false new _ (c.in-Ok.ensures.ok w.us steps start ps w.filed w.serve w.skip by is_held) in
     let holds = g.K.PacketSink.holds c.go_on_first.new.out start in
     let same_back : length new ≡ length back = search rules in
@@ -45,6 +45,6 @@ returns-in-Err-clause-err g c = λ ts steps takers start ps filed all skip on is
     let whole = whole-of n c.args.libraries.now lfront lback c.split_at.ensures.front c.split_at.ensures.back in
     let w = behind-front lfront lback front back ts p steps 1 takers (c.split_at.ensures.front_len ∙ sym many) (subst (λ k. IsShifted k 1 takers) (sym many) on.taker) c.of_bytes.ensures
     (subst (λ l. FiledAs l ts) whole filed) (subst (λ l. AllServe l ts steps) items all) skip in
-    let by : FirstGoesOn back c.args.alone.stream p =
-    subst (λ l. FirstGoesOn l c.args.alone.stream p) (ap (drop n) items ∙ subst (λ k. drop k (front ++ back) ≡ back) many (drop-append_seam front back)) on.goes_on in
+    let by : FirstGoesOn back c.args.alone.of p =
+    subst (λ l. FirstGoesOn l c.args.alone.of p) (ap (drop n) items ∙ subst (λ k. drop k (front ++ back) ≡ back) many (drop-append_seam front back)) on.goes_on in
     failed-behind lback front back 1 ts p steps w c.in-Err.fault _ _ (c.in-Err.ensures.err w.us steps start ps w.filed w.serve by is_held)

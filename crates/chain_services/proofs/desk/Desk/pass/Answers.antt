@@ -1,62 +1,34 @@
-use Rattle.std.proofs.Common.{rules, ◌≡◌, ◌<◌, true, false, List, [], ◌∷◌, ◌++◌, ◌∙◌, sym, ap, subst}
+use Rattle.std.proofs.Common.{◌≡◌, ◌<◌, false, List, sym, subst}
 use Rattle.ts_packet.specs.Fields.{pid_of}
 use Rattle.injector.specs.Steps.{Step, packets_in}
 use Rattle.service_laws.specs.Services.{ServiceTerms}
 use Rattle.chain_services.specs.Owners.{LeavesOut, HasOwners}
-use Rattle.std.specs.Prelude.{if◌then◌else◌}
-use Rattle.std.proofs.lemmas.List.{append-nil}
-use Rattle.chain_services.specs.Parts.{parts_of}
-use Rattle.chain_services.proofs.PartLemmas.{given_parts, given_failed, none_adds}
 use Rattle.chain_services.proofs.desk.Desk.pass.Goals as goal
 
-pub returns-in-Err-clause-err : goal.returns-in-Err-clause-err
-returns-in-Err-clause-err g c = λ ts steps start ps filed apart stands is_held.
+pub returns-then-unit_start-clause-ok : goal.returns-then-unit_start-clause-ok
+returns-then-unit_start-clause-ok g c = λ ts steps start ps filed apart stands is_held.
     let owned = (λ (us : List ServiceTerms) (past : List Step) (has : HasOwners c.args.self.now.owners us (packets_in past)) (n : c.takes_all-all.result ≡ false).
     subst (λ k. LeavesOut k us (pid_of c.args.packet.now) (packets_in past)) (sym c.takers-takers.ensures.value)
     (has (pid_of c.args.packet.now) c.takers-takers.ensures.pid (subst (λ k. k < 255) c.takers-takers.ensures.value (c.takes_all-all.ensures.told n)))) in
-    let holds = g.K.PacketSink.holds c.pass_through.new.out start in
-    let fails = g.K.PacketSink.fails c.pass_through.new.out start in
-    given_failed c.in-Err.fault ts c.args.packet.now steps (λ l. holds (ps ++ l)) (λ put q x. fails (ps ++ put) q x) apart (c.in-Err.ensures.err ts steps start ps filed stands.services (λ n. (stands.quiet (c.takes_all-all.ensures.asked n), owned ts steps stands.owners n)) is_held)
+    c.pass_start.ensures.ok ts steps start ps filed apart stands.services (λ n. (stands.quiet (c.takes_all-all.ensures.asked n), owned ts steps stands.owners n)) is_held
 
-pub returns-in-Ok-put-clause-ok : goal.returns-in-Ok-put-clause-ok
-returns-in-Ok-put-clause-ok g c = λ ts steps start ps filed apart stands is_held.
+pub returns-then-unit_start-clause-err : goal.returns-then-unit_start-clause-err
+returns-then-unit_start-clause-err g c = λ ts steps start ps filed apart stands is_held.
     let owned = (λ (us : List ServiceTerms) (past : List Step) (has : HasOwners c.args.self.now.owners us (packets_in past)) (n : c.takes_all-all.result ≡ false).
     subst (λ k. LeavesOut k us (pid_of c.args.packet.now) (packets_in past)) (sym c.takers-takers.ensures.value)
     (has (pid_of c.args.packet.now) c.takers-takers.ensures.pid (subst (λ k. k < 255) c.takers-takers.ensures.value (c.takes_all-all.ensures.told n)))) in
-    let p = c.args.packet.now in
-    let n : c.in-Ok.passed.is_own ≡ false = search rules in
-    let done = c.in-Ok.ensures.ok ts steps start ps filed stands.services (λ n. (stands.quiet (c.takes_all-all.ensures.asked n), owned ts steps stands.owners n)) is_held in
-    let none = sym done.owns_it ∙ n in
-    let before = subst (g.K.PacketSink.holds c.pass_through.new.out start) (ap (λ l. ps ++ l) (none_adds ts p steps none) ∙ append-nil ps) done.out in
-    let alone = given_parts ts p steps apart ∙ ap (λ b. if b then parts_of ts p steps else p ∷ []) none in
-    (done.serve, subst (λ l. g.K.PacketSink.holds c.put.new.self start (ps ++ l)) (sym alone) (c.in-Ok-put.ensures.ok start ps before), done.still)
+    c.pass_start.ensures.err ts steps start ps filed apart stands.services (λ n. (stands.quiet (c.takes_all-all.ensures.asked n), owned ts steps stands.owners n)) is_held
 
-pub returns-in-Err-put-clause-err : goal.returns-in-Err-put-clause-err
-returns-in-Err-put-clause-err g c = λ ts steps start ps filed apart stands is_held.
+pub returns-clause-ok : goal.returns-clause-ok
+returns-clause-ok g c = λ ts steps start ps filed apart stands is_held.
     let owned = (λ (us : List ServiceTerms) (past : List Step) (has : HasOwners c.args.self.now.owners us (packets_in past)) (n : c.takes_all-all.result ≡ false).
     subst (λ k. LeavesOut k us (pid_of c.args.packet.now) (packets_in past)) (sym c.takers-takers.ensures.value)
     (has (pid_of c.args.packet.now) c.takers-takers.ensures.pid (subst (λ k. k < 255) c.takers-takers.ensures.value (c.takes_all-all.ensures.told n)))) in
-    let p = c.args.packet.now in
-    let n : c.in-Ok.passed.is_own ≡ false = search rules in
-    let done = c.in-Ok.ensures.ok ts steps start ps filed stands.services (λ n. (stands.quiet (c.takes_all-all.ensures.asked n), owned ts steps stands.owners n)) is_held in
-    let none = sym done.owns_it ∙ n in
-    let before = subst (g.K.PacketSink.holds c.pass_through.new.out start) (ap (λ l. ps ++ l) (none_adds ts p steps none) ∙ append-nil ps) done.out in
-    let alone = given_parts ts p steps apart ∙ ap (λ b. if b then parts_of ts p steps else p ∷ []) none in
-    record {
-      put = [];
-      packet = p;
-      left = [];
-      all = alone;
-      fault = subst (λ l. g.K.PacketSink.fails c.put.new.self start l p c.in-Err-put.fault) (sym (append-nil ps)) (c.in-Err-put.ensures.err start ps before);
-    }
+    c.pass_next.ensures.ok ts steps start ps filed apart stands.services (λ n. (stands.quiet (c.takes_all-all.ensures.asked n), owned ts steps stands.owners n)) is_held
 
-pub returns-else-not-passed-clause-ok : goal.returns-else-not-passed-clause-ok
-returns-else-not-passed-clause-ok g c = λ ts steps start ps filed apart stands is_held.
+pub returns-clause-err : goal.returns-clause-err
+returns-clause-err g c = λ ts steps start ps filed apart stands is_held.
     let owned = (λ (us : List ServiceTerms) (past : List Step) (has : HasOwners c.args.self.now.owners us (packets_in past)) (n : c.takes_all-all.result ≡ false).
     subst (λ k. LeavesOut k us (pid_of c.args.packet.now) (packets_in past)) (sym c.takers-takers.ensures.value)
     (has (pid_of c.args.packet.now) c.takers-takers.ensures.pid (subst (λ k. k < 255) c.takers-takers.ensures.value (c.takes_all-all.ensures.told n)))) in
-    let p = c.args.packet.now in
-    let y : c.in-Ok.passed.is_own ≡ true = search rules in
-    let done = c.in-Ok.ensures.ok ts steps start ps filed stands.services (λ n. (stands.quiet (c.takes_all-all.ensures.asked n), owned ts steps stands.owners n)) is_held in
-    let given = given_parts ts p steps apart ∙ ap (λ b. if b then parts_of ts p steps else p ∷ []) (sym done.owns_it ∙ y) in
-    (done.serve, subst (λ l. g.K.PacketSink.holds c.pass_through.new.out start (ps ++ l)) (sym given) done.out, done.still)
+    c.pass_next.ensures.err ts steps start ps filed apart stands.services (λ n. (stands.quiet (c.takes_all-all.ensures.asked n), owned ts steps stands.owners n)) is_held
