@@ -212,14 +212,14 @@ on-ok (Err e) P Q so h = tt
 -- ---- the one that alone takes the packet
 
 pub taker-behind : (front new : List AirService) (takers : ℕ) (alone : Alone) (p : List ℕ) → length front ≡ alone.count → IsShifted alone.count 1 takers
-    → FirstGoesOnAir new alone.stream p → TakerGoesOn takers alone (front ++ new) p
+    → FirstGoesOnAir new alone.of p → TakerGoesOn takers alone (front ++ new) p
 taker-behind front new takers alone p many shifted on = record {
   few = let e = length-append front new in omega (arith, e, many);
   taker = shifted;
-  goes_on = subst (λ k. FirstGoesOnAir (drop k (front ++ new)) alone.stream p) many (subst (λ l. FirstGoesOnAir l alone.stream p) (sym (drop-append_seam front new)) on);
+  goes_on = subst (λ k. FirstGoesOnAir (drop k (front ++ new)) alone.of p) many (subst (λ l. FirstGoesOnAir l alone.of p) (sym (drop-append_seam front new)) on);
 }
 
 pub taker-apart : (front back : List AirService) (takers : ℕ) (alone : Alone) (p : List ℕ) → length front ≡ alone.count → TakerGoesOn takers alone (front ++ back) p
-    → FirstGoesOnAir back alone.stream p
+    → FirstGoesOnAir back alone.of p
 taker-apart front back takers alone p many h =
-    subst (λ l. FirstGoesOnAir l alone.stream p) (drop-append_seam front back) (subst (λ k. FirstGoesOnAir (drop k (front ++ back)) alone.stream p) (sym many) h.goes_on)
+    subst (λ l. FirstGoesOnAir l alone.of p) (drop-append_seam front back) (subst (λ k. FirstGoesOnAir (drop k (front ++ back)) alone.of p) (sym many) h.goes_on)

@@ -1,6 +1,7 @@
 -- Which services take the packets of a PID: the others need not be shown them.
 use Rattle.std.specs.Prelude.{◌≡◌, ◌<◌, ◌≤◌, ◌%◌, ◌/◌, ℕ, false, List, [], ◌∷◌, length, drop, slice_index_or, Some}
 use Rattle.program_follower.specs.Following.{IsUnfollowed}
+use Rattle.program_follower.specs.declared.starts.StreamPart.{StreamPart}
 use Rattle.chain_engine.specs.Passing.{GoesOnBy}
 use Rattle.chain_services.specs.Owners.{IsShifted}
 use Rattle.chain_services.specs.declared.owners.Alone.{Alone}
@@ -65,13 +66,13 @@ AreLeftOut takers [] pid ys = Unit {0}
 AreLeftOut takers (s ∷ ss) pid [] = Unit {0}
 AreLeftOut takers (s ∷ ss) pid (a ∷ ys) = (takers % 2 ≡ 0 → IsLeftOut s pid a) × AreLeftOut (takers / 2) ss pid ys
 
--- the first of these services judges the packet that is settled, which goes on alone there, in the switched stream of this number
-abbrev pub FirstGoesOnAir : List AirService → ℕ → List ℕ → Type 0
-FirstGoesOnAir [] stream p = ⊥
-FirstGoesOnAir (s ∷ ss) stream p = (s.is_unjudged ≡ false) × GoesOnBy s.service stream p
+-- the first of these services judges the packet that is settled, which goes on alone there, as this to its stream
+abbrev pub FirstGoesOnAir : List AirService → StreamPart → List ℕ → Type 0
+FirstGoesOnAir [] of p = ⊥
+FirstGoesOnAir (s ∷ ss) of p = (s.is_unjudged ≡ false) × GoesOnBy s.service of p
 
 -- the one behind so many of them alone takes it, and it goes on so
 pub record TakerGoesOn (takers : ℕ) (alone : Alone) (ss : List AirService) (p : List ℕ) : Type 0 where
   pub few : alone.count ≤ length ss
   pub taker : IsShifted alone.count 1 takers
-  pub goes_on : FirstGoesOnAir (drop alone.count ss) alone.stream p
+  pub goes_on : FirstGoesOnAir (drop alone.count ss) alone.of p

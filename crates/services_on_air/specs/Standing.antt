@@ -113,7 +113,7 @@ StillGoesOn desk takers alone p = desk.asks_all ≡ false → TakerGoesOn takers
 -- how a packet passes that is settled for each service as it stands: none takes it, or one alone, for which it goes on in one of its streams
 abbrev pub IsStill : Still → ℕ → Type 0
 IsStill Beside takers = takers ≡ 0
-IsStill (Taken alone) takers = alone.stream < 8
+IsStill (Taken alone) takers = alone.of.stream < 8
 
 abbrev pub TakerIsStill : {M : Type 0} → AirDesk M → Still → ℕ → List ℕ → Type 0
 TakerIsStill desk Beside takers p = Unit {0}

@@ -15,6 +15,7 @@ use crate::service::{AirService, Passed};
 use ad_library::AdLibrary;
 use chain_engine::of_bytes;
 use chain_services::{Alone, leaves_out, leaves_out_all, shift_of};
+use program_follower::StreamPart;
 use ts_packet::{Packet, PacketSink, PutFault};
 
 /// How a packet passes that is settled for each service as it stands.
@@ -139,32 +140,32 @@ fn pass_first<K: PacketSink>(
     service.pass(packet, library, out)
 }
 
-/// Does what [`pass_first`] does, where the packet goes on alone for that service in the stream of this number.
+/// Does what [`pass_first`] does, where the packet goes on alone for that service, as this to its stream.
 ///
 /// # Errors
 ///
 /// The sink's.
 #[inline(always)]
 pub(crate) fn go_on_first<K: PacketSink>(
-    stream: usize,
+    of: StreamPart,
     services: &mut [AirService],
     libraries: &[AdLibrary],
     packet: &Packet,
     out: &mut K,
 ) -> Result<Passed, PutFault>
-    requires { stream < 8 }
+    requires { of.stream < 8 }
     ensures leads { K.leads out.old out.new }
     ensures stands { (xs : List Airing) → AllSettled services.old packet.now xs → length libraries.now ≡ length xs
         → AreLeftOut 1 services.old (pid_of packet.now) xs
-        → FirstGoesOnAir services.old stream packet.now
+        → FirstGoesOnAir services.old of packet.now
         → IfOk result (λ passed. AllStand services.new xs × ArePassed passed packet.now xs) }
     ensures judged { (xs : List Airing) → AllSettled services.old packet.now xs → length libraries.now ≡ length xs
         → AreLeftOut 1 services.old (pid_of packet.now) xs
-        → FirstGoesOnAir services.old stream packet.now
+        → FirstGoesOnAir services.old of packet.now
         → IfOk result (λ passed. passed.has_left ≡ false → AllJudged services.new) }
     ensures out { (ys : List Airing) (ts : List ServiceTerms) (gs : List Gone) (start : Option (List ℕ)) (ps : List (List ℕ))
         → AllSettled services.old packet.now ys → AreLeftOut 1 services.old (pid_of packet.now) ys
-        → FirstGoesOnAir services.old stream packet.now
+        → FirstGoesOnAir services.old of packet.now
         → FiledAs libraries.now ts → AllGone services.old ts gs → K.holds out.old start ps
         → OnOk result (AllGone services.new ts (gones_on ts packet.now ys gs)
         × K.holds out.new start (ps ++ puts_on ts packet.now ys gs)) }
@@ -178,7 +179,7 @@ pub(crate) fn go_on_first<K: PacketSink>(
     let Some((library, _behind)) = libraries.split_first() else {
         return Ok(Passed::alone());
     };
-    service.pass_alone(stream, packet, library, out)
+    service.pass_alone(of, packet, library, out)
 }
 
 /// Does what [`pass_each`] does, and begins with the first of these services that takes the packet.

@@ -27,8 +27,9 @@ use crate::watch::{ServiceBegun, ServicesWatch, Shown};
 use ad_library::AdLibrary;
 use arrayvec::ArrayVec;
 use chain_engine::{Judge, RunFault, Service, put_fault};
-use chain_services::Nowhere;
+use chain_services::{Nowhere, has_turned};
 use on_air::{MapTail, Marks, Standing, Verdict};
+use program_follower::StreamPart;
 use psi_tables::{Config, FeedFault};
 use scte104_codec::{BadMessage, Message, Reply};
 use splice_switch::SwitchReport;
@@ -117,15 +118,15 @@ pub(crate) struct Numbered<'a> {
 /// One program's service on air. Where a stretch ends it begins anew, and is given the packets and messages of the next one.
 #[derive(Drop)]
 pub(crate) struct AirService {
+    service: Service,
+    marks: Marks,
+    tail: MapTail,
     /// No packet has come.
     is_empty: bool,
     /// Its stretch ends with the packet that came last: with that a service before it shares a PID.
     shares: bool,
     /// It leaves the packet unjudged that was settled last.
     is_unjudged: bool,
-    marks: Marks,
-    service: Service,
-    tail: MapTail,
     /// How many stretches began behind another one; the count stops at the greatest u64.
     begun: u64,
     /// What the stretches that ended counted, summed.
@@ -316,37 +317,37 @@ impl AirService {
         self.settle_closely(next, library, out, watch)
     }
 
-    /// The number of the switched stream in which the next packet goes on alone, where it is judged and its stretch goes on with it. So it is of
-    /// nine packets in ten that are of a stream.
+    /// What the next packet is to its switched stream, where it goes on alone, is judged, and its stretch goes on with it. So it is of nearly all
+    /// packets that are of a stream.
     #[inline(always)]
-    fn just_goes_on(&self, packet: &Packet) -> Option<usize>
+    fn just_goes_on(&self, packet: &Packet) -> Option<StreamPart>
         ensures becomes { (c : Config) (past : List Entry) → self.now.service.config ≡ c → Keeps self.now.marks (writing_cues c) past
             → HasFollowed self.now.service c (as_read past)
             → IfSome result (λ _. Becomes Verdict.Judged self.now.marks (writing_cues c) packet.now past) }
         ensures goes_on { IfSome result (λ _. (self.now.is_empty ≡ false) × (self.now.shares ≡ false)) }
-        ensures below { IfSome result (λ stream. stream < 8) }
-        ensures alone { IfSome result (λ stream. (self.now.is_unjudged ≡ false) × GoesOnBy self.now.service stream packet.now) }
+        ensures below { IfSome result (λ of. of.stream < 8) }
+        ensures alone { IfSome result (λ of. (self.now.is_unjudged ≡ false) × GoesOnBy self.now.service of packet.now) }
     {
         if self.is_empty || self.shares || self.is_unjudged || self.marks.has_any() {
             return None;
         }
         match self.service.goes_on(packet) {
-            Some(stream) => Some(stream),
+            Some(of) => Some(of),
             None => None,
         }
     }
 
-    /// The number of the switched stream in which the next packet goes on alone, where it is settled as the service stands; `None` where it is no
-    /// such packet, or that is open.
+    /// What the next packet is to its switched stream, where it goes on alone and is settled as the service stands; `None` where it is no such packet,
+    /// or that is open.
     #[inline(always)]
-    pub(crate) fn stays_still(&self, packet: &Packet) -> Option<usize>
-        ensures below { IfSome result (λ stream. stream < 8) }
-        ensures alone { IfSome result (λ stream. (self.now.is_unjudged ≡ false) × GoesOnBy self.now.service stream packet.now) }
+    pub(crate) fn stays_still(&self, packet: &Packet) -> Option<StreamPart>
+        ensures below { IfSome result (λ of. of.stream < 8) }
+        ensures alone { IfSome result (λ of. (self.now.is_unjudged ≡ false) × GoesOnBy self.now.service of packet.now) }
         ensures settled { (a : Airing) → AirStandsFor self.now a → IfSome result (λ _. IsSettled self.now packet.now (next_of packet.now a)) }
         ensures anew { (a : Airing) → AirStandsFor self.now a → IfSome result (λ _. begins_anew packet.now a ≡ false) }
     {
         match self.just_goes_on(packet) {
-            Some(stream) => Some(stream),
+            Some(of) => Some(of),
             None => None,
         }
     }
@@ -446,7 +447,7 @@ impl AirService {
         self.ended = self.ended.plus(report);
         self.lost = self.lost.saturating_add(lost);
         self.begun = self.begun.saturating_add(1);
-        self.service = Service::new(config);
+        self.service.begin_anew(config);
         self.marks = Marks::new();
         let put = self.tail.put(out);
         self.tail = MapTail::new();
@@ -531,8 +532,8 @@ impl AirService {
         }
     }
 
-    /// Passes the packet on that was settled and is judged, and goes on alone in the stream of this number: it is of its own, brings no part of a
-    /// section of its map, and no PID more is known with it.
+    /// Passes the packet on that was settled and is judged, and goes on alone, as this to its stream: it is of its own, brings no part of a section of
+    /// its map, and no PID more is known with it.
     ///
     /// # Errors
     ///
@@ -540,25 +541,30 @@ impl AirService {
     #[inline(always)]
     pub(crate) fn pass_alone<K: PacketSink>(
         &mut self,
-        stream: usize,
+        of: StreamPart,
         packet: &Packet,
         library: &AdLibrary,
         out: &mut K,
     ) -> Result<Passed, PutFault>
-        requires { stream < 8 }
+        requires { of.stream < 8 }
         ensures leads { K.leads out.old out.new }
         ensures stands { (a : Airing) → IsSettled self.old packet.now a → self.old.is_unjudged ≡ false
-            → GoesOnBy self.old.service stream packet.now → IfOk result (λ passed. AirStandsFor self.new a × IsPassed passed packet.now a) }
+            → GoesOnBy self.old.service of packet.now → IfOk result (λ passed. AirStandsFor self.new a × IsPassed passed packet.now a) }
         ensures out { (t : ServiceTerms) (g : Gone) (start : Option (List ℕ)) (ps : List (List ℕ)) → held library.now ≡ t.filed
-            → HasGone self.old t g → GoesOnBy self.old.service stream packet.now → K.holds out.old start ps
+            → HasGone self.old t g → GoesOnBy self.old.service of packet.now → K.holds out.old start ps
             → IfOk result (λ passed. HasGone self.new t (gone_on t (judged packet.now) g)
             × K.holds out.new start (ps ++ put_own passed.is_own t (judged packet.now) g)) }
         ensures left { self.old.is_unjudged ≡ false → IfOk result (λ passed. passed.has_left ≡ self.new.is_unjudged) }
         ensures alone { IfOk result (λ passed. (passed.is_own ≡ true) × (passed.has_left ≡ false)) }
         ensures still { IfOk result (λ passed. (passed.learns ≡ false) × (passed.is_unjudged ≡ false)) }
     {
-        match self.service.go_on(stream, packet, library, out) {
-            Ok(()) => Ok(Passed::alone()),
+        let given = &of;
+        let turns = self.service.switch().turns();
+        match self.service.go_on(*given, packet, library, out) {
+            Ok(()) => Ok(Passed {
+                has_turned: has_turned(given.part.is_start(), turns, self.service.switch().turns()),
+                ..Passed::alone()
+            }),
             Err(fault) => Err(put_fault(fault)),
         }
     }

@@ -19,7 +19,7 @@ returns-clause-stands g c = λ xs h many out on.
     let ss = c.in-Some._others.now in
     let shape : c.args.services.now ≡ s ∷ ss = search rules in
     let p = c.args.packet.now in
-    let by = subst (λ l. FirstGoesOnAir l c.args.stream p) shape on in
+    let by = subst (λ l. FirstGoesOnAir l c.args.of p) shape on in
     let k = settling c.args.services.now s ss p xs shape h in
     let rest = all-pass ss p k.more k.others (left-first c.args.services.now s ss xs k.a k.more 1 (pid_of p) shape k.parts out).1 in
     IfOk-weaker c.pass_alone.result _ _ (λ passed one. (
@@ -33,7 +33,7 @@ returns-clause-judged g c = λ xs h many out on.
     let ss = c.in-Some._others.now in
     let shape : c.args.services.now ≡ s ∷ ss = search rules in
     let p = c.args.packet.now in
-    let by = subst (λ l. FirstGoesOnAir l c.args.stream p) shape on in
+    let by = subst (λ l. FirstGoesOnAir l c.args.of p) shape on in
     let k = settling c.args.services.now s ss p xs shape h in
     let rest = all-pass ss p k.more k.others (left-first c.args.services.now s ss xs k.a k.more 1 (pid_of p) shape k.parts out).1 in
     IfOk-weaker c.pass_alone.result _ _ (λ passed is none. (sym is ∙ none, rest.judged)) (c.pass_alone.ensures.left by.0)
@@ -45,7 +45,7 @@ returns-clause-out g c = λ ys ts gs start ps h out on filed all is_held.
     let shape : c.args.services.now ≡ s ∷ ss = search rules in
     let long : c.args.libraries.now ≡ c.in-Some-split_first.library.now ∷ c.in-Some-split_first._behind.now = search rules in
     let p = c.args.packet.now in
-    let by = subst (λ l. FirstGoesOnAir l c.args.stream p) shape on in
+    let by = subst (λ l. FirstGoesOnAir l c.args.of p) shape on in
     let k = settling c.args.services.now s ss p ys shape h in
     let left = (left-first c.args.services.now s ss ys k.a k.more 1 (pid_of p) shape k.parts out).1 in
     let q = gone-of c.args.services.now s ss ts gs shape all in

@@ -12,12 +12,12 @@ use Rattle.services_on_air.proofs.service.AirService.begin_anew.Goals as goal
 
 pub returns-clause-stands : goal.returns-clause-stands
 returns-clause-stands g c = λ config ss is begun some.
-    let stands = c.new-self.ensures (λ n. None) in
+    let stands = c.begin_anew.ensures (λ n. None) in
     let of = c.config-config.ensures ∙ is in
     record {
       config = stands.config ∙ of;
-      marks = c.new-self-2.ensures.keeps (writing_cues config);
-      followed = record { steps = []; injector = subst (λ d. InjectorStandsFor c.new-self.result.injector d []) of stands.injector; packets = refl };
+      marks = c.new-self.ensures.keeps (writing_cues config);
+      followed = record { steps = []; injector = subst (λ d. InjectorStandsFor c.begin_anew.new.self.injector d []) of stands.injector; packets = refl };
       begun = c.saturating_add-self-2.ensures ∙ one-behind c.args.self.now.begun ss some begun;
     }
 
@@ -26,9 +26,9 @@ returns-clause-out g c = λ t gone start ps filed h is_held.
     let old = c.args.self.now in
     let d = writing_cues t.config in
     let of = c.config-config.ensures ∙ h.airs.config in
-    let begins = subst (λ w. ServiceStandsFor c.new-self.result w t.filed []) of (c.new-self.ensures t.filed) in
+    let begins = subst (λ w. ServiceStandsFor c.begin_anew.new.self w t.filed []) of (c.begin_anew.ensures t.filed) in
     let counts = report-so old.service t gone (held c.args.library.now) c.report-report.result filed h.airs (λ x s. c.report-report.ensures.counts t.config x s) in
     let stood = standing-so old.service t gone c.open_count-lost.result h.airs c.open_count-lost.ensures in
     on_ok_weaker c.put-put.result
-    (λ out. (anew-so old _ t gone c.report-report.result c.open_count-lost.result begins (kept-new c.new-self-3.result d c.new-self-3.ensures) c.plus-self.ensures counts c.saturating_add-self.ensures stood h, out))
+    (λ out. (anew-so old _ t gone c.report-report.result c.open_count-lost.result begins (kept-new c.new-self-2.result d c.new-self-2.ensures) c.plus-self.ensures counts c.saturating_add-self.ensures stood h, out))
     (kept-out-of old.tail d (packets_in gone.own) c.put-put.result (λ l. g.K.PacketSink.holds c.put-put.new.out start (ps ++ l)) (λ known since stands. c.put-put.ensures.puts known since start ps stands is_held) h.tail)

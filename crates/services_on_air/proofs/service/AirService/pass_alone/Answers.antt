@@ -20,7 +20,7 @@ returns-in-Ok-clause-stands g c = λ a h judges by.
     let stands = stands-behind s _ p p a h (is-itself s p a h judges) c.go_on.ensures.config refl refl refl refl (c.go_on.ensures.injector a.config steps alone h.followed.injector) in (
       stands,
       record {
-        own = c.alone.ensures.own ∙ owns-is s p a h true (owned_off_map (Some a.config.program) p (packets_in steps) on.elsewhere.map (Some c.args.stream) on.here);
+        own = c.alone.ensures.own ∙ owns-is s p a h true (owned_off_map (Some a.config.program) p (packets_in steps) on.elsewhere.map (Some c.args.of.stream) on.here);
         unjudged = c.alone.ensures.unjudged ∙ sym judges ∙ leaves-is s p a h;
         learns = c.alone.ensures.learns ∙ learns-none a p steps on.elsewhere (before-is s p a h) (behind-is s p a h judges);
       },

@@ -18,8 +18,8 @@ use Rattle.services_on_air.proofs.AllLemmas.{filed-long, own-put, passed-gone, p
 use Rattle.services_on_air.proofs.FrontLemmas.{behind-passed, gone-behind-passed, fewer-behind, taker-apart}
 use Rattle.services_on_air.proofs.services.AirServices.go_on.Goals as goal
 
-pub returns-in-Ok-clause-stands : goal.returns-in-Ok-clause-stands
-returns-in-Ok-clause-stands g c = λ cs past h many told on.
+pub returns-clause-stands : goal.returns-clause-stands
+returns-clause-stands g c = λ cs past h many told on.
     let desk = c.args.self.now.desk in
     let v = desk.services in
     let p = c.args.packet.now in
@@ -58,8 +58,8 @@ returns-in-Ok-clause-stands g c = λ cs past h many told on.
       judged = λ quiet. subst AllJudged now (w.judged new (c.in-Ok.ensures.judged w.ys w.settled long w.left_out first c.in-Ok.ensures.alone.1));
     }
 
-pub returns-in-Ok-clause-out : goal.returns-in-Ok-clause-out
-returns-in-Ok-clause-out g c = λ ts past before takes rs start st filed h told on is_held.
+pub returns-clause-out : goal.returns-clause-out
+returns-clause-out g c = λ ts past before takes rs start st filed h told on is_held.
     let old = c.args.self.now in
     let desk = old.desk in
     let v = desk.services in

@@ -27,11 +27,11 @@ returns-in-Some-stays_still-clause-alone g c =
     let ss = c.in-Some._others.now in
     let shape : back ≡ s ∷ ss = search rules in
     let one : c.shift_of-shift.result.takers ≡ 1 = search rules in
-    let stream = c.in-Some-stays_still.stream in
+    let of = c.in-Some-stays_still.of in
     let whole : items ≡ front ++ back = sym c.as_slice-services.ensures.value ∙ whole-of n c.as_slice-services.result.now front back c.split_at.ensures.front c.split_at.ensures.back in
-    subst (λ l. TakerGoesOn c.args.takers (record { count = n; stream = stream }) l p) (sym whole)
-    (taker-behind front back c.args.takers (record { count = n; stream = stream }) p c.split_at.ensures.front_len (subst (λ k. IsShifted n k c.args.takers) one c.shift_of-shift.ensures.shifted)
-    (subst (λ l. FirstGoesOnAir l stream p) (sym shape) c.in-Some-stays_still.ensures.alone))
+    subst (λ l. TakerGoesOn c.args.takers (record { count = n; of = of }) l p) (sym whole)
+    (taker-behind front back c.args.takers (record { count = n; of = of }) p c.split_at.ensures.front_len (subst (λ k. IsShifted n k c.args.takers) one c.shift_of-shift.ensures.shifted)
+    (subst (λ l. FirstGoesOnAir l of p) (sym shape) c.in-Some-stays_still.ensures.alone))
 
 pub returns-in-Some-stays_still-clause-stands : goal.returns-in-Some-stays_still-clause-stands
 returns-in-Some-stays_still-clause-stands g c = λ cs past h.

@@ -7,7 +7,7 @@ use Rattle.chain_engine.specs.declared.talk.Talk.{Talk}
 use Rattle.services_on_air.specs.Standing.{StillTold, TakerIsStill}
 use Rattle.services_on_air.specs.declared.desk.AirDesk.{AirDesk}
 use Rattle.services_on_air.proofs.FrontLemmas.{on-ok}
-use Rattle.services_on_air.proofs.services.AirServices.pass.Goals as goal
+use Rattle.services_on_air.proofs.services.AirServices.pass_next.Goals as goal
 
 pub returns-in-Ok-clause-stands : goal.returns-in-Ok-clause-stands
 returns-in-Ok-clause-stands g c = λ cs past h many.
