@@ -66,8 +66,6 @@ pub(crate) enum NetworkBytes<F, I> {
 }
 
 impl<F: Read, I: Read> Read for NetworkBytes<F, I> {
-    ghost use Rattle.dpi_program.specs.Runs.{left_in};
-
     ghost remaining = { λ s. left_in F.remaining I.remaining s };
 
     fn read(&mut self, buf: &mut [u8]) -> io::Result<usize> {

@@ -1,6 +1,5 @@
 //! Networks whose bytes need not all be packets, told of while they are read.
 
-use on_air::Unwatched;
 use packet_recovery::RecoveringReader;
 use ts_packet::{Packet, PacketSource, PausingPackets, PausingSource, ReadFault};
 
@@ -36,16 +35,6 @@ pub trait RecoveryWatch {
 
     /// Reads are to be told.
     fn is_on(&self) -> bool;
-}
-
-impl RecoveryWatch for Unwatched {
-    #[inline(always)]
-    fn read(&mut self, _recovery: &Recovery) {}
-
-    #[inline(always)]
-    fn is_on(&self) -> bool {
-        false
-    }
 }
 
 /// A source of packets among bytes that need not all be packets.
